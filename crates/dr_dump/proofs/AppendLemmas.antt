@@ -1,11 +1,11 @@
 -- Triplets of a column are taken by each column of its leaf.
-use Rattle.std.proofs.Common.{◌≡◌, ◌≤◌, ℕ, zero, suc, ◌+◌, List, [], ◌∷◌, ◌++◌, length, map, drop, Bool, true, false, refl, sym, ap, ap₂, ◌∙◌, subst, true≢false, arith, Some, None}
+use Rattle.std.proofs.Common.{◌≡◌, ◌≤◌, ℕ, zero, suc, List, [], ◌∷◌, length, map, drop, Bool, true, false, refl, sym, ◌∙◌, subst, true≢false, arith, Some, None}
 use Rattle.std.specs.Prelude.{◌==◌, ℤ, if◌then◌else◌}
 use Rattle.std.specs.List.{list_all}
 use Rattle.std.proofs.lemmas.Bool.{and_parts}
 use Rattle.std.proofs.lemmas.List.{length-drop}
 use Rattle.dr_meaning.specs.Schema as tree
-use Rattle.dr_meaning.specs.Record.{Value, bool_value, int_value, text_value}
+use Rattle.dr_meaning.specs.Record.{Value, bool_value, int_value}
 use Rattle.dr_meaning.specs.Column.{Triplet, triplet}
 use Rattle.dr_nested.specs.Views.{kind_view}
 use Rattle.dr_levels.specs.declared.triplet.Levels.{Levels}

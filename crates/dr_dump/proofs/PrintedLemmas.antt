@@ -1,8 +1,8 @@
 -- What is printed of an opened file, slice after slice.
-use Rattle.std.proofs.Common.{◌≡◌, ◌≢◌, ◌≤◌, ◌<◌, ℕ, zero, suc, ◌+◌, ◌-◌, List, [], ◌∷◌, ◌++◌, length, map, Bool, true, false, ◌&&◌, Option, Some, None, refl, sym, ap, ◌∙◌, subst, append_assoc, append-nil, length-append, true≢false, arith}
-use Rattle.std.specs.Prelude.{◌==◌, Result, Ok, Err, IsErrOf}
-use Rattle.std.specs.List.{list_all, slice_get, flat_map}
-use Rattle.std.proofs.lemmas.Bool.{and_parts, and_from, eqb-true}
+use Rattle.std.proofs.Common.{◌≡◌, ◌≢◌, ◌≤◌, ℕ, zero, suc, ◌+◌, ◌-◌, List, [], ◌∷◌, ◌++◌, length, map, Bool, true, false, ◌&&◌, Option, Some, None, refl, sym, ap, ◌∙◌, subst, append_assoc, append-nil, length-append, true≢false, arith}
+use Rattle.std.specs.Prelude.{◌==◌}
+use Rattle.std.specs.List.{list_all, slice_get}
+use Rattle.std.proofs.lemmas.Bool.{and_parts, eqb-true}
 use Rattle.std.proofs.lemmas.List.{map-append, nil_from_length}
 use Rattle.std.proofs.lemmas.List.Concat.{flat_map-append}
 use Rattle.std.proofs.lemmas.Option.{slice_get_within}
@@ -13,13 +13,12 @@ use Rattle.dr_meaning.specs.Column.{Triplet, column}
 use Rattle.dr_meaning.specs.Print.{record_text}
 use Rattle.dr_formats.specs.File.{HasCause, bad_data}
 use Rattle.dr_outside.specs.Link.{Files}
-use Rattle.dr_outside.specs.declared.cause.Cause.{Cause}
-use Rattle.dr_walk.specs.Walking.{HasColumns, NoneHas}
+use Rattle.dr_walk.specs.Walking.{NoneHas}
 use Rattle.dr_walk.specs.declared.fault.AssembleFault.{AssembleFault}
 use Rattle.dr_file.specs.OpenedFiles.{rows_of}
 use Rattle.dr_file.specs.declared.opened.Opened.{Opened}
 use Rattle.dr_file.specs.declared.file_fault.FileFault.{FileFault}
-use Rattle.dr_tablets.specs.FileRecords.{AreLeavesOf, AreOfFile, IsFaultOf, assemble_fault}
+use Rattle.dr_tablets.specs.FileRecords.{AreLeavesOf, IsFaultOf, assemble_fault}
 use Rattle.dr_nested.specs.PathView.{path_view, paths_view}
 use Rattle.dr_nested.specs.declared.path.Path.{Path}
 use Rattle.dr_tablets.proofs.RecordsLemmas.{paths_same, have_leaf_paths}

@@ -1,5 +1,5 @@
 -- Calls that read the chunks of leaves, one after another.
-use Rattle.std.proofs.Common.{◌≡◌, ℕ, List, [], ◌∷◌, Bool, true, false, Option, Some, refl, sym, ap, subst, ◌∙◌}
+use Rattle.std.proofs.Common.{◌≡◌, ℕ, List, [], ◌∷◌, false, Option, Some, refl, sym, subst}
 use Rattle.std.specs.Prelude.{Result, Ok, Err, IfErr, IsTrue}
 use Rattle.std.specs.List.{slice_get, flat_map}
 use Rattle.dr_meaning.specs.Path.{Leaf}
@@ -14,7 +14,7 @@ use Rattle.dr_file.specs.Asking.{is_for_path}
 use Rattle.dr_file.specs.Leaving.{LeavesLinkCounted, ServesOpened}
 use Rattle.dr_file.specs.Streams.{IsStreamOf, IsOfLeaf, file_of, refused_of}
 use Rattle.std.specs.Prelude.{None}
-use Rattle.dr_file.specs.OpenedFiles.{IsOpened, IsColumnFault, path_of, is_link_fault}
+use Rattle.dr_file.specs.OpenedFiles.{IsColumnFault, path_of, is_link_fault}
 use Rattle.dr_file.specs.declared.opened.Opened.{Opened}
 use Rattle.dr_file.specs.declared.file_fault.FileFault.{FileFault}
 use Rattle.dr_file.proofs.AskLemmas.{asks_nothing}

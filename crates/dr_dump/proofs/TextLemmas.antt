@@ -1,9 +1,8 @@
 -- A text that is cut back to where lines joined it.
-use Rattle.std.proofs.Common.{◌≡◌, ◌<◌, ℕ, zero, suc, ◌+◌, List, [], ◌∷◌, ◌++◌, length, map, take, refl, sym, ap, ◌∙◌, subst, append-nil, length-append, arith}
+use Rattle.std.proofs.Common.{◌≡◌, ◌<◌, ℕ, ◌+◌, List, [], ◌∷◌, ◌++◌, length, take, refl, sym, ap, ◌∙◌, subst, append-nil, length-append, arith}
 use Rattle.std.specs.Prelude.{◌≤◌, Result, Err, slice_index}
 use Rattle.dr_outside.specs.declared.cause.Cause.{Cause}
 use Rattle.dr_file.specs.declared.file_fault.FileFault.{FileFault}
-use Rattle.std.specs.List.{flat_map}
 use Rattle.dr_meaning.specs.Schema.{Fields}
 use Rattle.dr_meaning.specs.Record.{Node}
 use Rattle.dr_meaning.specs.Print.{record_text}

@@ -1,4 +1,4 @@
-use Rattle.std.proofs.Common.{◌≡◌, ◌∙◌, sym, ap, subst}
+use Rattle.std.proofs.Common.{◌∙◌, sym, ap}
 use Rattle.dr_levels.specs.Columns.{takes}
 use Rattle.dr_levels.specs.Views.{LeafForm, triplet_view, triplets_view}
 use Rattle.dr_dump.proofs.AppendLemmas.{first_of_column}

@@ -1,4 +1,4 @@
-use Rattle.std.proofs.Common.{◌≡◌, map, length, sym, ap, ◌∙◌, string_bytes, arith}
+use Rattle.std.proofs.Common.{map, ◌∙◌, string_bytes, arith}
 use Rattle.dr_nested.specs.SchemaView.{schema_view}
 use Rattle.dr_nested.specs.PathView.{path_view}
 use Rattle.dr_table.specs.Views.{table_view}

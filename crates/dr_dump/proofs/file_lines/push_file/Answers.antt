@@ -1,5 +1,5 @@
-use Rattle.std.proofs.Common.{◌≡◌, ◌∙◌, ℕ, List, Option, sym, ap, subst, map, string_bytes, arith}
-use Rattle.std.specs.Prelude.{Ok, Err}
+use Rattle.std.proofs.Common.{ℕ, List, Option, sym, subst, map, string_bytes, arith}
+use Rattle.std.specs.Prelude.{Err}
 use Rattle.dr_nested.specs.Views.{fields_view}
 use Rattle.dr_nested.specs.PathView.{path_view}
 use Rattle.dr_outside.specs.Link.{Files}

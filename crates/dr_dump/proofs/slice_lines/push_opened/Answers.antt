@@ -1,4 +1,4 @@
-use Rattle.std.proofs.Common.{◌≡◌, ◌∙◌, ℕ, List, length, map, false, refl, sym, ap, subst, string_bytes, arith}
+use Rattle.std.proofs.Common.{◌∙◌, List, length, map, refl, sym, ap, subst, string_bytes, arith}
 use Rattle.std.specs.Prelude.{Ok, Err, Option}
 use Rattle.std.specs.List.{list_all}
 use Rattle.std.proofs.lemmas.List.{length-map}

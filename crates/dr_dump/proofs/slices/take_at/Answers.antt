@@ -1,5 +1,4 @@
 use Rattle.std.proofs.Common.{◌≡◌, ◌∙◌, ◌++◌, length, refl, sym, subst}
-use Rattle.std.specs.Prelude.{Option}
 use Rattle.std.proofs.lemmas.Option.{slice_get_read}
 use Rattle.dr_dump.specs.Leaves.{rest_of, IsLeafRecords}
 use Rattle.dr_dump.specs.declared.leaf_records.LeafRecords.{LeafRecords}

@@ -1,4 +1,4 @@
-use Rattle.std.proofs.Common.{◌≡◌, ◌++◌, ◌∷◌, [], ◌∙◌, ℕ, length, map, refl, sym, ap, subst, arith}
+use Rattle.std.proofs.Common.{◌≡◌, ◌∷◌, [], ◌∙◌, ℕ, length, map, refl, ap, subst, arith}
 use Rattle.std.specs.Prelude.{Ok, Err, Option}
 use Rattle.std.proofs.lemmas.List.{map-append}
 use Rattle.dr_meaning.specs.Column.{column}

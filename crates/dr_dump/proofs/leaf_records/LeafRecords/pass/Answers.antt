@@ -1,4 +1,4 @@
-use Rattle.std.proofs.Common.{◌≡◌, ◌∙◌, ◌++◌, List, true, map, take, length, refl, sym, ap, inl, inr, arith}
+use Rattle.std.proofs.Common.{◌∙◌, ◌++◌, List, map, take, length, refl, ap, inl, arith}
 use Rattle.dr_meaning.specs.Column.{Triplet}
 use Rattle.dr_levels.specs.Views.{column_view, triplet_levels}
 use Rattle.std.proofs.lemmas.Bool.{lt-ltb}

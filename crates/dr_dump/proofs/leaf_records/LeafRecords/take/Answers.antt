@@ -1,6 +1,5 @@
-use Rattle.std.proofs.Common.{◌≡◌, ◌≢◌, ◌∙◌, ◌++◌, List, [], ◌∷◌, true, true≢false, refl, sym, ap, subst, arith}
+use Rattle.std.proofs.Common.{◌≢◌, ◌∙◌, ◌++◌, List, [], ◌∷◌, true, true≢false, refl, sym, ap, subst, arith}
 use Rattle.std.specs.Prelude.{Ok, Err, Option}
-use Rattle.dr_meaning.specs.Path.{Leaf}
 use Rattle.dr_meaning.specs.Column.{Triplet}
 use Rattle.dr_meaning.specs.OneColumn.{starts, begins_record}
 use Rattle.dr_formats.specs.Opening.{leaf_cause}
