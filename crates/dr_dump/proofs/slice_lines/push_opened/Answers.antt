@@ -61,7 +61,7 @@ returns-in-Err-push_slice-clause-reads g c =
     let slice = reads_saying o F F (λ bytes. IsColumnsFault bytes F) (λ bytes. IsFaultOf bytes s F) (Ok c.in-Ok-take_slice.columns) was now (λ bytes told e k. columns_fault bytes s F o e told.0 c.requires.leaves k) (c.in-Ok-take_slice.ensures.reads o F p.records behind) in
     let all = reads_then o F F (λ bytes. IsFaultOf bytes s F) tt (Ok c.in-Ok-take_slice.columns) link was now inv.reads slice in
     let taken = subst (λ (D : List (List Triplet)). AreTaken link.held o F p.records k (length F) xs ys D) (sym (ap columns_view c.deref.ensures.value))
-        (subst (λ (h : Option Files). AreTaken h o F p.records k (length F) xs ys (columns_view c.in-Ok-take_slice.columns.items)) inv.reads.link.same (c.in-Ok-take_slice.ensures.taken o F p.records behind)) in
+    (subst (λ (h : Option Files). AreTaken h o F p.records k (length F) xs ys (columns_view c.in-Ok-take_slice.columns.items)) inv.reads.link.same (c.in-Ok-take_slice.ensures.taken o F p.records behind)) in
     reads_refused o F F (λ bytes. IsFaultOf bytes s F) c.in-Ok-take_slice.columns c.file_fault.result link now (ap is_link_fault c.file_fault.ensures ∙ assembled_alone c.in-Err-push_slice.fault)
     (λ bytes told. subst (IsFaultOf bytes s F) (sym c.file_fault.ensures) (slice_fault bytes s F c.in-Err-push_slice.fault
     (λ e. no_slice bytes s F link.held o c.slices.left k (string_bytes c.args.text.now) (string_bytes c.slices.text) xs ys C c.requires.leaves (lead_to_leaves fs c.args.fields.now c.requires.leaves) p taken
@@ -86,7 +86,7 @@ returns-then-are_passed-clause-lines g c =
     let after = string_bytes c.push_slice.new.text in
     let behind = subst (λ (h : Option Files). AreBehind h o F p.records xs) (sym inv.reads.link.same) p.behind in
     let taken = subst (λ (D : List (List Triplet)). AreTaken held o F p.records k (length F) xs ys D) (sym (ap columns_view c.deref.ensures.value))
-        (subst (λ (h : Option Files). AreTaken h o F p.records k (length F) xs ys (columns_view c.in-Ok-take_slice.columns.items)) inv.reads.link.same (c.in-Ok-take_slice.ensures.taken o F p.records behind)) in
+    (subst (λ (h : Option Files). AreTaken h o F p.records k (length F) xs ys (columns_view c.in-Ok-take_slice.columns.items)) inv.reads.link.same (c.in-Ok-take_slice.ensures.taken o F p.records behind)) in
     printed_all s F held o p.records k before after xs ys C p.behind taken
     (printed_more s F held o c.slices.left 0 k before middle after xs ys C p taken (printed_by_leaves fs c.args.fields.now C k middle after c.in-Ok-push_slice.ensures.lines) (omega (arith, c.min-records.ensures)) (omega (arith, c.if-left-eq0.true)))
     (sym (ap (list_all is_passed) c.deref-then-left-eq0.ensures.value) ∙ (sym c.are_passed.ensures ∙ c.if-are_passed.true))
@@ -127,7 +127,7 @@ returns-then-left-eq0-clause-reads g c =
     let slice = reads_saying o F F (λ bytes. IsColumnsFault bytes F) (λ bytes. IsFaultOf bytes s F) (Ok c.in-Ok-take_slice.columns) was now (λ bytes told e k. columns_fault bytes s F o e told.0 c.requires.leaves k) (c.in-Ok-take_slice.ensures.reads o F p.records behind) in
     let all = reads_then o F F (λ bytes. IsFaultOf bytes s F) tt (Ok c.in-Ok-take_slice.columns) link was now inv.reads slice in
     let taken = subst (λ (D : List (List Triplet)). AreTaken link.held o F p.records k (length F) xs ys D) (sym (ap columns_view c.deref.ensures.value))
-        (subst (λ (h : Option Files). AreTaken h o F p.records k (length F) xs ys (columns_view c.in-Ok-take_slice.columns.items)) inv.reads.link.same (c.in-Ok-take_slice.ensures.taken o F p.records behind)) in
+    (subst (λ (h : Option Files). AreTaken h o F p.records k (length F) xs ys (columns_view c.in-Ok-take_slice.columns.items)) inv.reads.link.same (c.in-Ok-take_slice.ensures.taken o F p.records behind)) in
     let last = printed_more s F link.held o c.slices.left 0 k before middle after xs ys C p taken (printed_by_leaves fs c.args.fields.now C k middle after c.in-Ok-push_slice.ensures.lines) (omega (arith, c.min-records.ensures)) (omega (arith, c.if-left-eq0.true)) in
     let some = sym (ap (list_all is_passed) c.deref-then-left-eq0.ensures.value) ∙ (sym c.are_passed.ensures ∙ c.if-are_passed.false) in
     reads_refused o F F (λ bytes. IsFaultOf bytes s F) c.in-Ok-take_slice.columns (FileFault.Why Cause.BadData) link now refl
@@ -155,7 +155,7 @@ slices-preserved g c =
     let slice = reads_saying o F F (λ bytes. IsColumnsFault bytes F) (λ bytes. IsFaultOf bytes s F) (Ok c.in-Ok-take_slice.columns) was now (λ bytes told e k. columns_fault bytes s F o e told.0 c.requires.leaves k) (c.in-Ok-take_slice.ensures.reads o F p.records behind) in
     let all = reads_then o F F (λ bytes. IsFaultOf bytes s F) tt (Ok c.in-Ok-take_slice.columns) link was now inv.reads slice in
     let taken = subst (λ (D : List (List Triplet)). AreTaken link.held o F p.records k (length F) xs ys D) (sym (ap columns_view c.deref.ensures.value))
-        (subst (λ (h : Option Files). AreTaken h o F p.records k (length F) xs ys (columns_view c.in-Ok-take_slice.columns.items)) inv.reads.link.same (c.in-Ok-take_slice.ensures.taken o F p.records behind)) in
+    (subst (λ (h : Option Files). AreTaken h o F p.records k (length F) xs ys (columns_view c.in-Ok-take_slice.columns.items)) inv.reads.link.same (c.in-Ok-take_slice.ensures.taken o F p.records behind)) in
     record {
       printed = printed_more s F link.held o c.slices.left _ k before middle after xs ys C p taken (printed_by_leaves fs c.args.fields.now C k middle after c.in-Ok-push_slice.ensures.lines) (omega (arith, c.min-records.ensures)) refl;
       reads = reads_value o F F (λ bytes. IsFaultOf bytes s F) c.in-Ok-take_slice.columns tt link now all;

@@ -17,7 +17,7 @@ returns-in-Err-push-clause-reads g c = λ o F R h.
     let inv = c.leaves.invariant in
     let so_far = inv.reads o F R h in
     let n = next_leaf (g.L.Link.shows c.args.link.now).held (g.L.Link.shows c.leaves.link).held o F R c.args.records c.leaves.index c.args.leaves.now.items c.leaves.leaves.items (columns_view c.leaves.columns.items) so_far.link.same h (inv.taken o F R h)
-        (omega (arith, c.leaves-test.true, c.len-index-end.ensures, c.args.leaves.now.ok.0)) in
+    (omega (arith, c.leaves-test.true, c.len-index-end.ensures, c.args.leaves.now.ok.0)) in
     let one = reads_one o F c.leaves.index n.leaf (Ok c.in-Ok.column) _ _ n.at (c.in-Ok.ensures.reads o F n.leaf n.stands (column n.leaf.path R) n.is n.of) in
     reads_refused o F F (λ bytes. IsColumnsFault bytes F) c.in-Ok.column FileFault.NoMemory _ _ refl (λ bytes t. tt) (reads_then o F F (λ bytes. IsColumnsFault bytes F) tt (Ok c.in-Ok.column) _ _ _ so_far one)
 
@@ -26,7 +26,7 @@ returns-in-Err-clause-reads g c = λ o F R h.
     let inv = c.leaves.invariant in
     let so_far = inv.reads o F R h in
     let n = next_leaf (g.L.Link.shows c.args.link.now).held (g.L.Link.shows c.leaves.link).held o F R c.args.records c.leaves.index c.args.leaves.now.items c.leaves.leaves.items (columns_view c.leaves.columns.items) so_far.link.same h (inv.taken o F R h)
-        (omega (arith, c.leaves-test.true, c.len-index-end.ensures, c.args.leaves.now.ok.0)) in
+    (omega (arith, c.leaves-test.true, c.len-index-end.ensures, c.args.leaves.now.ok.0)) in
     let one = reads_one o F c.leaves.index n.leaf (Err c.in-Err.fault) _ _ n.at (c.in-Err.ensures.reads o F n.leaf n.stands (column n.leaf.path R) n.is n.of) in
     reads_failed o F F (λ bytes. IsColumnsFault bytes F) c.in-Err.fault _ _ (reads_then o F F (λ bytes. IsColumnsFault bytes F) tt (Err c.in-Err.fault) _ _ _ so_far one)
 
@@ -40,7 +40,7 @@ leaves-preserved g c = record {
       let so_far = inv.reads o F R h in
       let t = inv.taken o F R h in
       let n = next_leaf held (g.L.Link.shows c.leaves.link).held o F R k c.leaves.index xs c.leaves.leaves.items (columns_view c.leaves.columns.items) so_far.link.same h t
-          (omega (arith, c.leaves-test.true, c.len-index-end.ensures, c.args.leaves.now.ok.0)) in
+      (omega (arith, c.leaves-test.true, c.len-index-end.ensures, c.args.leaves.now.ok.0)) in
       let y = c.in-Ok.ensures.taken o F n.leaf n.stands (column n.leaf.path R) n.is n.of in
       one_taken held o F n.leaf R k c.leaves.index n.stands y.0 xs c.leaves.leaves.items c.take_at.new.leaves.items (columns_view c.leaves.columns.items) (columns_view c.push.new.self.items) (column_view c.in-Ok.column) t n.at n.was y.1
       (subst (λ (z : Option Files). IsTaken z o F n.leaf (column n.leaf.path R) k n.stands y.0 (column_view c.in-Ok.column)) so_far.link.same y.2)
@@ -49,7 +49,7 @@ leaves-preserved g c = record {
       let inv = c.leaves.invariant in
       let so_far = inv.reads o F R h in
       let n = next_leaf (g.L.Link.shows c.args.link.now).held (g.L.Link.shows c.leaves.link).held o F R c.args.records c.leaves.index c.args.leaves.now.items c.leaves.leaves.items (columns_view c.leaves.columns.items) so_far.link.same h (inv.taken o F R h)
-          (omega (arith, c.leaves-test.true, c.len-index-end.ensures, c.args.leaves.now.ok.0)) in
+      (omega (arith, c.leaves-test.true, c.len-index-end.ensures, c.args.leaves.now.ok.0)) in
       let one = reads_one o F c.leaves.index n.leaf (Ok c.in-Ok.column) _ _ n.at (c.in-Ok.ensures.reads o F n.leaf n.stands (column n.leaf.path R) n.is n.of) in
       reads_value o F F (λ bytes. IsColumnsFault bytes F) c.in-Ok.column tt _ _ (reads_then o F F (λ bytes. IsColumnsFault bytes F) tt (Ok c.in-Ok.column) _ _ _ so_far one);
 }

@@ -36,7 +36,7 @@ returns-in-Ok-clause-read g c =
     (λ bytes t. lines.file bytes (subst (λ (h : Option Files). TellsFile h c.as_str.result.now bytes) (sym inv.same) t))
     (λ lacks. not_absent (c.in-Ok.ensures.absent (subst (λ (h : Option Files). Lacks h c.as_str.result.now) (sym inv.same) lacks) (λ e. cc))) in
     let text = lines.lines ∙ (ap (λ (x : List ℕ). x ++ lines_text s.fields lines.records) inv.text
-        ∙ ap (λ (x : List ℕ). string_bytes c.args.text.now ++ x) (ap (lines_text s.fields) gives.2 ∙ dumped s.fields F gives.0)) in
+    ∙ ap (λ (x : List ℕ). string_bytes c.args.text.now ++ x) (ap (lines_text s.fields) gives.2 ∙ dumped s.fields F gives.0)) in
     (read_given tried gives.0, gives.1, subst (LeadTo link.faults (causes_of tried)) (sym (c.in-Ok.ensures.link.calm refl)) inv.leads, text)
 
 pub returns-clause-read : goal.returns-clause-read
