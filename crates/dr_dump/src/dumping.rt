@@ -1,24 +1,24 @@
 //! Dumping a table.
 
-ghost use Rattle.std.specs.Prelude.{◌≡◌, ◌≤◌, ◌++◌, [], map, IfOk, OnOk, IsTrue, string_bytes};
+ghost use Rattle.std.specs.Prelude.{◌≡◌, ◌≤◌, [], map, IfOk, OnOk, IsTrue, string_bytes};
 ghost use Rattle.dr_nested.specs.Views.{fields_view};
 ghost use Rattle.dr_nested.specs.PathView.{path_view};
 ghost use Rattle.dr_table.specs.Views.{table_view};
-ghost use Rattle.dr_assemble.specs.Views.{nodes_view};
 ghost use Rattle.dr_reading.specs.Scan.{tablets_of};
 ghost use Rattle.dr_tablets.specs.Asked.{AsksForTablets};
 ghost use Rattle.dr_tablets.specs.FileRecords.{AreLeavesOf};
 ghost use Rattle.dr_tablets.specs.Views.{all_left_view};
-ghost use Rattle.dr_tablets.specs.Tablets.{LeavesTablets, TakesTablet, with_tablet};
-ghost use Rattle.dr_dump.specs.Dumps.{lines_text, HasLines, AreLinesOf};
+ghost use Rattle.dr_tablets.specs.Tablets.{LeavesTablets};
+ghost use Rattle.dr_dump.specs.Dumps.{AreLinesOf};
 ghost use Rattle.dr_dump.specs.Answers.{WhereLines, WhereLeft};
+ghost use Rattle.dr_dump.specs.Printed.{with_lines};
 
+use crate::tablet_lines::{TabletLines, push_tablet};
 use dr_memory::NoMemory;
-use dr_nested::{Node, Path, Schema};
+use dr_nested::Path;
 use dr_outside::Link;
-use dr_print::push_record_text;
 use dr_table::Table;
-use dr_tablets::{LeftTablet, Tablet, read_tablet};
+use dr_tablets::LeftTablet;
 use std::alloc::Global;
 
 /// What is read of a table: the lines of its records, or the tablets that are left.
@@ -30,48 +30,25 @@ pub enum Dumped {
     Left(Vec<LeftTablet>),
 }
 
-/// Appends the lines of records.
-fn push_lines(
-    alloc: Global,
-    text: &mut String,
-    schema: &Schema,
-    records: &[Node],
-) -> Result<(), NoMemory>
-    ensures { OnOk result (string_bytes text.new
-        ≡ string_bytes text.old ++ lines_text (fields_view (schema.now).fields.items) (nodes_view records.now)) }
+/// Keeps what became of a tablet: it joins those that are left, or its lines are in the text already.
+///
+/// Errors: want of memory alone.
+fn keep(left: &mut Vec<LeftTablet>, tablet: u32, lines: TabletLines) -> Result<(), NoMemory>
+    ensures { OnOk result (all_left_view (left.new).items ≡ with_lines tablet lines (all_left_view (left.old).items)) }
 {
-    'records: for record in records {
-        push_record_text(alloc, text, schema, record)?;
+    match lines {
+        TabletLines::Printed => {}
+        TabletLines::Left(tried) => left.push(LeftTablet { tablet, tried })?,
     }
     Ok(())
 }
 
-/// Keeps what was read of a tablet: it joins those that are left, or its records are printed, unless some tablet is
-/// left.
-fn keep(
-    alloc: Global,
-    left: &mut Vec<LeftTablet>,
-    text: &mut String,
-    schema: &Schema,
-    tablet: u32,
-    read: Tablet,
-) -> Result<(), NoMemory>
-    ensures left { OnOk result (all_left_view (left.new).items
-        ≡ with_tablet tablet read (all_left_view (left.old).items)) }
-    ensures lines { OnOk result ((left.new).items ≡ []
-        → TakesTablet (HasLines (fields_view (schema.now).fields.items)) read text.old text.new) }
+/// Where a tablet is left, nothing is printed.
+fn clear_where_left(left: &[LeftTablet], text: &mut String)
+    ensures { left.now ≡ [] → string_bytes text.new ≡ string_bytes text.old }
 {
-    match read {
-        Tablet::Left(tried) => {
-            left.push(LeftTablet { tablet, tried })?;
-            Ok(())
-        }
-        Tablet::Given(records) => {
-            if left.is_empty() {
-                push_lines(alloc, text, schema, &records)?;
-            }
-            Ok(())
-        }
+    if !left.is_empty() {
+        text.clear();
     }
 }
 
@@ -100,8 +77,9 @@ pub fn dump_table<L: Link>(
     let mut left = Vec::new(alloc);
     let mut text = String::new(alloc);
     'tablets: for tablet in 0..table.tablets {
-        let read = read_tablet(alloc, link, table, fields, tablet)?;
-        keep(alloc, &mut left, &mut text, &table.schema, tablet, read)?;
+        let lines = push_tablet(alloc, link, table, fields, tablet, &mut text)?;
+        keep(&mut left, tablet, lines)?;
+        clear_where_left(&left, &mut text);
     }
     if left.is_empty() {
         Ok(Dumped::Lines(text))

@@ -2,7 +2,7 @@ use Rattle.std.proofs.Common.{◌≡◌, ◌++◌, take, string_bytes}
 use Rattle.dr_nested.specs.Views.{fields_view}
 use Rattle.dr_assemble.specs.Views.{nodes_view}
 use Rattle.dr_dump.specs.Dumps.{lines_text}
-use Rattle.dr_dump.proofs.dumping.push_lines.Given as goal
+use Rattle.dr_dump.proofs.slice_lines.push_lines.Given as goal
 
 -- the records before this one are printed
 abbrev pub invariant-records : goal.invariant-records
