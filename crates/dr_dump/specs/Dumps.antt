@@ -1,7 +1,6 @@
 -- What is printed of a table's records, and which of its tablets are left.
-use Rattle.std.specs.Prelude.{◌≡◌, ℕ, List, String, string_bytes}
+use Rattle.std.specs.Prelude.{◌≡◌, ℕ, List}
 use Rattle.std.specs.List.{flat_map}
-use Rattle.std.specs.declared.alloc.Global.{Global}
 use Rattle.dr_meaning.specs.Schema.{Fields}
 use Rattle.dr_meaning.specs.Path.{Leaf, paths_of_leaves}
 use Rattle.dr_meaning.specs.Record.{Node, project}
@@ -14,10 +13,6 @@ use Rattle.dr_reading.specs.InTurn.{GiveInTurn}
 -- the lines of records
 abbrev pub lines_text : Fields → List Node → List ℕ
 lines_text fs R = flat_map (record_text fs) R
-
--- a text is the lines of records
-abbrev pub HasLines : Fields → String Global → List Node → Type 0
-HasLines fs text R = string_bytes text ≡ lines_text fs R
 
 -- the lines of records, projected to leaves
 abbrev pub dump_text : Fields → List Leaf → List Node → List ℕ
