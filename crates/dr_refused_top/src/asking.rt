@@ -12,12 +12,11 @@ ghost use Rattle.dr_load.specs.Faults.{refusal_of};
 ghost use Rattle.dr_input.specs.Taken.{WhereTold, AcceptsRead};
 ghost use Rattle.dr_serve.specs.Asked.{IsAnswerTo};
 
-use dr_serve::ask_input;
 use dr_load::LoadFault;
 use dr_nested::Schema;
 use dr_outside::Source;
 use dr_plan::Plan;
-use dr_serve::ServeOptions;
+use dr_serve::{ServeOptions, ask_input};
 use std::alloc::Global;
 use std::sync::Wait;
 use std::thread::Threads;
