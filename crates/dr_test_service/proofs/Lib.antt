@@ -1,0 +1,2 @@
+-- threads may share a plan and a service
+pub mod CrossingLemmas
