@@ -5,6 +5,8 @@ use Rattle.dr_meaning.specs.Column.{Triplet}
 use Rattle.dr_formats.specs.Page.{triplets_read}
 use Rattle.dr_formats.specs.Chunk.{pages as read_pages, pages_triplets}
 use Rattle.dr_levels.specs.Views.{LeafForm}
+use Rattle.dr_outside.specs.Link.{LinkShown}
+use Rattle.dr_outside.specs.Telling.{Tells}
 use Rattle.dr_page.specs.PageReading.{left_of as page_left}
 use Rattle.dr_page.specs.declared.page_reader.PageReader.{PageReader}
 use Rattle.dr_chunk.specs.declared.byte_range.ByteRange.{ByteRange}
@@ -93,3 +95,11 @@ pub record IsTaking (l : Leaf) (wanted : ℕ) (bytes : List ℕ) (given : List T
 -- more joined a column
 abbrev pub TakesMore : Leaf → ℕ → List ℕ → List Triplet → List Triplet → List Triplet → ChunkReader → Type 0
 TakesMore l wanted bytes given before after r = (more : List Triplet) × (after ≡ before ++ more) × IsTaking l wanted bytes (given ++ more) r
+
+-- what is said of a call, over whatever triplets the reader gave of a leaf's chunk
+abbrev pub OverTaking : ChunkReader → (Leaf → ℕ → List ℕ → List Triplet → Type 0) → Type 0
+OverTaking r says = (l : Leaf) (wanted : ℕ) (bytes : List ℕ) (given : List Triplet) → IsTaking l wanted bytes given r → says l wanted bytes given
+
+-- the same, where the link tells the file at this path
+abbrev pub OverTold : LinkShown → List ℕ → ChunkReader → (Leaf → ℕ → List ℕ → List Triplet → Type 0) → Type 0
+OverTold s path r says = OverTaking r (λ l wanted bytes given. Tells s path bytes → says l wanted bytes given)

@@ -1,14 +1,20 @@
 -- A page that is read a piece at a time.
-use Rattle.std.specs.Prelude.{◌≡◌, ℕ, ◌+◌, ◌<◌, ◌⊎◌, List, [], Option, Some, None}
+use Rattle.std.specs.Prelude.{◌≡◌, ℕ, ◌+◌, ◌<◌, ◌⊎◌, List, [], Option, Some, None, option_map}
 use Rattle.dr_meaning.specs.Record.{Value}
+use Rattle.dr_meaning.specs.Path.{Leaf}
 use Rattle.dr_meaning.specs.Column.{Triplet}
 use Rattle.dr_formats.specs.Reading.{Reading, got, refused}
 use Rattle.dr_formats.specs.Page.{PageShape, PageFault, bad_page, page_triplets}
-use Rattle.dr_formats.specs.Chunk.{PageTaken, taken}
+use Rattle.dr_formats.specs.Chunk.{PageTaken, taken, page_taken, data_page}
 use Rattle.dr_page.specs.PageReading.{left_of, reader_form, IsReading}
+use Rattle.dr_meta.specs.declared.page.PageHead.{PageHead}
+use Rattle.dr_meta.specs.Views.{page_view}
+use Rattle.dr_page.specs.Views.{shape_view}
+use Rattle.dr_page.specs.declared.shape.Shape.{Shape}
 use Rattle.dr_page.specs.declared.page_reader.PageReader.{PageReader}
-use Rattle.dr_chunk.specs.Takers.{leaf_form}
+use Rattle.dr_chunk.specs.Takers.{leaf_form, wanted_of, is_first_of, dictionary_of}
 use Rattle.dr_chunk.specs.declared.leaf_shape.LeafShape.{LeafShape}
+use Rattle.dr_chunk.specs.declared.page_taker.PageTaker.{PageTaker}
 
 -- what a page gives that spells these triplets, if it spells any, with the chunk's dictionary from there on
 abbrev pub of_page : Option (List Triplet) → List Value → Reading PageFault PageTaken
@@ -40,6 +46,18 @@ pub record Begins (page : Reading PageFault PageTaken) (wanted left : ℕ) (d : 
   pub is : page ≡ of_page meant d
   pub underway : IsUnderway meant size d body [] p
   pub count : left + size ≡ wanted
+
+-- what comes of a page with this header and body, by what is known before it
+abbrev pub page_read : Leaf → PageTaker → PageHead → List ℕ → Reading PageFault PageTaken
+page_read l t h body = page_taken l (wanted_of t) (is_first_of t) (dictionary_of t) (page_view h) body []
+
+-- the same of a data page, of this shape if it has a header of its type
+abbrev pub data_read : PageTaker → Option Shape → List ℕ → Reading PageFault PageTaken
+data_read t shape body = data_page (wanted_of t) (dictionary_of t) body (option_map shape_view shape) []
+
+-- such a page comes, of which nothing was given yet
+abbrev pub BeginsPage : Reading PageFault PageTaken → List ℕ → PageTaker → PageTaker → PageReader → Type 0
+BeginsPage page body t t' p = Begins page (wanted_of t) (wanted_of t') (dictionary_of t') body p
 
 -- the page that is read, if one is, is of the leaf
 abbrev pub HasForm : LeafShape → PageReader → Type 0

@@ -40,17 +40,16 @@ pub struct ChunkReader {
 }
 
 impl ChunkReader {
-    ghost use Rattle.std.specs.Prelude.{◌++◌, ◌∷◌, [], ℕ, List, Ok, Err, None, IfOk, OnOk, OnErr, take, drop};
+    ghost use Rattle.std.specs.Prelude.{◌∷◌, [], ℕ, List, Ok, Err, None, IfOk, OnOk, OnErr, take};
     ghost use Rattle.dr_meaning.specs.Path.{Leaf};
-    ghost use Rattle.dr_meaning.specs.Column.{Triplet};
     ghost use Rattle.dr_formats.specs.Chunk.{pages_triplets};
     ghost use Rattle.dr_levels.specs.Views.{column_view, column_form};
     ghost use Rattle.dr_page.specs.PageReading.{Lengthens};
-    ghost use Rattle.dr_outside.specs.Telling.{Tells, AsksOnly};
+    ghost use Rattle.dr_outside.specs.Telling.{AsksOnly};
     ghost use Rattle.dr_outside.specs.Leaving.{LeavesLink, ServesUntil};
     ghost use Rattle.dr_chunk.specs.Ranges.{is_read_inside, inside};
     ghost use Rattle.dr_chunk.specs.Takers.{leaf_form, IsLeafOf};
-    ghost use Rattle.dr_chunk.specs.Taking.{range_of, left_of, reader_form, held_of, chunk_of, refused_of, fault_of, IsTaking, TakesMore};
+    ghost use Rattle.dr_chunk.specs.Taking.{range_of, left_of, reader_form, held_of, chunk_of, refused_of, fault_of, IsTaking, TakesMore, OverTaking, OverTold};
 
     /// A reader without a chunk. Takes no memory.
     pub fn new(alloc: Global) -> ChunkReader
@@ -122,12 +121,11 @@ impl ChunkReader {
     ) -> Result<usize, ChunkFault>
         requires form { column_form out.old ≡ reader_form self.old }
         requires some { 0 < most }
-        ensures takes { (l : Leaf) (wanted : ℕ) (bytes : List ℕ) (given : List Triplet)
-            → IsTaking l wanted bytes given self.old → Tells (L.shows link.old) path.now bytes
-            → OnOk result (TakesMore l wanted bytes given (column_view out.old) (column_view out.new) self.new) }
-        ensures bad { (l : Leaf) (wanted : ℕ) (bytes : List ℕ) (given : List Triplet)
-            → IsTaking l wanted bytes given self.old → Tells (L.shows link.old) path.now bytes → result
-            ≡ Err ChunkFault.BadData → pages_triplets l wanted (chunk_of bytes (range_of self.old)) ≡ None }
+        ensures takes { OverTold (L.shows link.old) path.now self.old (λ l wanted bytes given.
+            OnOk result (TakesMore l wanted bytes given (column_view out.old) (column_view out.new) self.new)) }
+        ensures bad { OverTold (L.shows link.old) path.now self.old (λ l wanted bytes given.
+            result ≡ Err ChunkFault.BadData
+            → pages_triplets l wanted (chunk_of bytes (range_of self.old)) ≡ None) }
         ensures longer { IfOk result (λ n. Lengthens (column_view out.old) (column_view out.new) n) }
         ensures left { IfOk result (λ n. n + left_of self.new ≡ left_of self.old) }
         ensures most { IfOk result (λ n. n ≤ most) }
@@ -183,12 +181,11 @@ impl ChunkReader {
         requires unrefused { refused_of self.old ≡ None }
         requires form { column_form out.old ≡ reader_form self.old }
         requires some { 0 < most }
-        ensures takes { (l : Leaf) (wanted : ℕ) (bytes : List ℕ) (given : List Triplet)
-            → IsTaking l wanted bytes given self.old → Tells (L.shows link.old) path.now bytes
-            → OnOk result (TakesMore l wanted bytes given (column_view out.old) (column_view out.new) self.new) }
-        ensures bad { (l : Leaf) (wanted : ℕ) (bytes : List ℕ) (given : List Triplet)
-            → IsTaking l wanted bytes given self.old → Tells (L.shows link.old) path.now bytes → result
-            ≡ Err ChunkFault.BadData → pages_triplets l wanted (chunk_of bytes (range_of self.old)) ≡ None }
+        ensures takes { OverTold (L.shows link.old) path.now self.old (λ l wanted bytes given.
+            OnOk result (TakesMore l wanted bytes given (column_view out.old) (column_view out.new) self.new)) }
+        ensures bad { OverTold (L.shows link.old) path.now self.old (λ l wanted bytes given.
+            result ≡ Err ChunkFault.BadData
+            → pages_triplets l wanted (chunk_of bytes (range_of self.old)) ≡ None) }
         ensures longer { IfOk result (λ n. Lengthens (column_view out.old) (column_view out.new) n) }
         ensures left { IfOk result (λ n. n + left_of self.new ≡ left_of self.old) }
         ensures most { IfOk result (λ n. n ≤ most) }
@@ -224,12 +221,11 @@ impl ChunkReader {
         requires unrefused { refused_of self.old ≡ None }
         requires over { reading.left_of (self.old).page ≡ 0 }
         requires wanted { 0 < wanted_of (self.old).taker }
-        ensures takes { (l : Leaf) (wanted : ℕ) (bytes : List ℕ) (given : List Triplet)
-            → IsTaking l wanted bytes given self.old → Tells (L.shows link.old) path.now bytes
-            → OnOk result (IsTaking l wanted bytes given self.new) }
-        ensures bad { (l : Leaf) (wanted : ℕ) (bytes : List ℕ) (given : List Triplet)
-            → IsTaking l wanted bytes given self.old → Tells (L.shows link.old) path.now bytes → result
-            ≡ Err ChunkFault.BadData → pages_triplets l wanted (chunk_of bytes (range_of self.old)) ≡ None }
+        ensures takes { OverTold (L.shows link.old) path.now self.old (λ l wanted bytes given.
+            OnOk result (IsTaking l wanted bytes given self.new)) }
+        ensures bad { OverTold (L.shows link.old) path.now self.old (λ l wanted bytes given.
+            result ≡ Err ChunkFault.BadData
+            → pages_triplets l wanted (chunk_of bytes (range_of self.old)) ≡ None) }
         ensures left { OnOk result (left_of self.new ≡ left_of self.old) }
         ensures pages { OnOk result ((self.new).pages < (self.old).pages) }
         ensures reader_form { reader_form self.new ≡ reader_form self.old }
@@ -270,12 +266,10 @@ impl ChunkReader {
         requires form { column_form out.old ≡ reader_form self.old }
         requires some { 0 < most }
         requires left { 0 < reading.left_of (self.old).page }
-        ensures takes { (l : Leaf) (wanted : ℕ) (bytes : List ℕ) (given : List Triplet)
-            → IsTaking l wanted bytes given self.old
-            → OnOk result (TakesMore l wanted bytes given (column_view out.old) (column_view out.new) self.new) }
-        ensures bad { (l : Leaf) (wanted : ℕ) (bytes : List ℕ) (given : List Triplet)
-            → IsTaking l wanted bytes given self.old → result ≡ Err ChunkFault.BadData
-            → pages_triplets l wanted (chunk_of bytes (range_of self.old)) ≡ None }
+        ensures takes { OverTaking self.old (λ l wanted bytes given.
+            OnOk result (TakesMore l wanted bytes given (column_view out.old) (column_view out.new) self.new)) }
+        ensures bad { OverTaking self.old (λ l wanted bytes given. result ≡ Err ChunkFault.BadData
+            → pages_triplets l wanted (chunk_of bytes (range_of self.old)) ≡ None) }
         ensures longer { IfOk result (λ n. Lengthens (column_view out.old) (column_view out.new) n) }
         ensures left { IfOk result (λ n. n + left_of self.new ≡ left_of self.old) }
         ensures most { IfOk result (λ n. n ≤ most) }

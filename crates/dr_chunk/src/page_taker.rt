@@ -3,7 +3,7 @@
 ghost use Rattle.std.specs.Prelude.{◌≡◌, ◌≢◌, ◌<◌, ◌^◌, true, option_map, IfSome};
 ghost use Rattle.dr_meaning.specs.Path.{Leaf};
 ghost use Rattle.dr_nested.specs.Views.{kind_view};
-ghost use Rattle.dr_page.specs.Views.{is_dictionary_of, dictionary_view, shape_view};
+ghost use Rattle.dr_page.specs.Views.{is_dictionary_of, dictionary_view};
 ghost use Rattle.dr_chunk.specs.Shapes.{IsOfLeaf};
 
 use crate::fault::ChunkFault;
@@ -43,12 +43,12 @@ pub(crate) struct PageTaker {
 
 impl PageTaker {
     ghost use Rattle.std.specs.Prelude.{◌+◌, [], false, OnOk, OnErr, IfErr};
-    ghost use Rattle.dr_formats.specs.Chunk.{taken, data_page, dictionary_page, page_taken};
+    ghost use Rattle.dr_formats.specs.Chunk.{taken, data_page, dictionary_page};
     ghost use Rattle.dr_formats.specs.Reading.{got};
-    ghost use Rattle.dr_meta.specs.Views.{page_view, dictionary_page_view};
-    ghost use Rattle.dr_page.specs.PageReading.{left_of, reader_form};
+    ghost use Rattle.dr_meta.specs.Views.{dictionary_page_view};
+    ghost use Rattle.dr_page.specs.PageReading.{left_of};
     ghost use Rattle.dr_chunk.specs.Takers.{leaf_of, wanted_of, is_first_of, dictionary_of, dictionary_size_of, leaf_form, IsLeafOf, IsChunkFault};
-    ghost use Rattle.dr_chunk.specs.Underway.{Begins, HasForm};
+    ghost use Rattle.dr_chunk.specs.Underway.{HasForm, BeginsPage, page_read, data_read};
 
     /// Before the first page of a chunk of which so many triplets are wanted.
     pub(crate) fn new(alloc: Global, leaf: LeafShape, wanted: u64) -> PageTaker
@@ -110,12 +110,9 @@ impl PageTaker {
     ) -> Result<(), ChunkFault>
         requires { left_of page.old ≡ 0 }
         ensures begins { (l : Leaf) → IsLeafOf l (leaf_of self.old)
-            → OnOk result (Begins (page_taken l (wanted_of self.old) (is_first_of self.old) (dictionary_of self.old)
-            (page_view head.now) body.now []) (wanted_of self.old) (wanted_of self.new) (dictionary_of self.new)
-            body.now page.new) }
+            → OnOk result (BeginsPage (page_read l self.old head.now body.now) body.now self.old self.new page.new) }
         ensures bad { (l : Leaf) → IsLeafOf l (leaf_of self.old)
-            → IfErr result (λ e. IsChunkFault e (page_taken l (wanted_of self.old) (is_first_of self.old)
-            (dictionary_of self.old) (page_view head.now) body.now [])) }
+            → IfErr result (λ e. IsChunkFault e (page_read l self.old head.now body.now)) }
         ensures count { OnOk result (wanted_of self.new + left_of page.new ≡ wanted_of self.old) }
         ensures form { HasForm (leaf_of self.old) page.new }
         ensures stays { OnErr result (wanted_of self.new ≡ wanted_of self.old) }
@@ -139,12 +136,9 @@ impl PageTaker {
     ) -> Result<(), ChunkFault>
         requires { left_of page.old ≡ 0 }
         ensures begins { (l : Leaf) → IsLeafOf l (leaf_of self.old)
-            → OnOk result (Begins (page_taken l (wanted_of self.old) (is_first_of self.old) (dictionary_of self.old)
-            (page_view head.now) body.now []) (wanted_of self.old) (wanted_of self.new) (dictionary_of self.new)
-            body.now page.new) }
+            → OnOk result (BeginsPage (page_read l self.old head.now body.now) body.now self.old self.new page.new) }
         ensures bad { (l : Leaf) → IsLeafOf l (leaf_of self.old)
-            → IfErr result (λ e. IsChunkFault e (page_taken l (wanted_of self.old) (is_first_of self.old)
-            (dictionary_of self.old) (page_view head.now) body.now [])) }
+            → IfErr result (λ e. IsChunkFault e (page_read l self.old head.now body.now)) }
         ensures count { OnOk result (wanted_of self.new + left_of page.new ≡ wanted_of self.old) }
         ensures form { HasForm (leaf_of self.old) page.new }
         ensures stays { OnErr result (wanted_of self.new ≡ wanted_of self.old) }
@@ -173,11 +167,9 @@ impl PageTaker {
     ) -> Result<(), ChunkFault>
         requires none { left_of page.old ≡ 0 }
         requires shape { IfSome shape (λ s. IsOfLeaf (leaf_of self.old) s) }
-        ensures begins { OnOk result (Begins (data_page (wanted_of self.old) (dictionary_of self.old) body.now
-            (option_map shape_view shape) []) (wanted_of self.old) (wanted_of self.new) (dictionary_of self.new)
-            body.now page.new) }
-        ensures bad { IfErr result (λ e. IsChunkFault e (data_page (wanted_of self.old) (dictionary_of self.old)
-            body.now (option_map shape_view shape) [])) }
+        ensures begins { OnOk result (BeginsPage (data_read self.old shape body.now) body.now self.old self.new
+            page.new) }
+        ensures bad { IfErr result (λ e. IsChunkFault e (data_read self.old shape body.now)) }
         ensures count { OnOk result (wanted_of self.new + left_of page.new ≡ wanted_of self.old) }
         ensures form { HasForm (leaf_of self.old) page.new }
         ensures stays { OnErr result (wanted_of self.new ≡ wanted_of self.old) }

@@ -1,17 +1,21 @@
 -- The condition of a plan along a walk: the condition that is watched in parts, and what is told of the open branches.
 use Rattle.std.specs.Prelude.{◌≡◌, ℕ, zero, suc, ⊤, List, reverse, Bool, true, false, Option, None, Some}
 use Rattle.std.specs.List.{list_all}
+use denote.Ref.{Bor}
 use Rattle.dr_meaning.specs.Walk.{Move, enter, value, leave}
 use Rattle.dr_levels.specs.Branches.{branch_at}
 use Rattle.dr_levels.specs.declared.kept.Kept.{Kept}
+use Rattle.dr_levels.specs.declared.triplet.ValueRef.{ValueRef}
 use Rattle.dr_kept_laws.specs.Telling.{Verdict, kept, dropped, undecided, first_dropped, is_told_dropped}
 use Rattle.dr_kept_laws.specs.Parts.{all_tests, Pruning, nothing_pruned, prune_moves, pruning_tells}
+use Rattle.dr_kept_laws.specs.MovedContexts.{after_moves}
 use Rattle.dr_plan.specs.declared.expression.Truth.{Truth}
 use Rattle.dr_prune.specs.PartAnswers.{lasts_of, untested, HasAnswered, HasPruned}
 use Rattle.dr_prune.specs.Pruning.{verdict_of, watch_of}
+use Rattle.dr_scalar.specs.Slots.{slot_value}
 use Rattle.dr_prune.specs.declared.answers.Answers.{Answers}
 use Rattle.dr_prune.specs.declared.pruner.Pruner.{Pruner}
-use Rattle.dr_condition.specs.Parted.{test_at, WatchedParts}
+use Rattle.dr_condition.specs.Parted.{test_at, WatchedParts, lent_tests}
 
 -- what a pruner watches, with tests of these last leaves
 abbrev pub watch_with : List Truth → List ℕ → Pruner → WatchedParts
@@ -21,6 +25,14 @@ watch_with ts ls p = record { watch = watch_of (all_tests (untested (test_at ts)
 pub record HaveWatched (ts : List Truth) (a : Answers) (ms : List Move) (p : Pruner) : Type 0 where
   pub answered : HasAnswered (test_at ts) ms a
   pub pruned : HasPruned (all_tests (untested (test_at ts) (lasts_of a))) (test_at ts) (lasts_of a) ms p
+
+-- the slots hold what was read last of each leaf by these moves
+abbrev pub HoldRead : List (Option ValueRef) → List Move → Type 0
+HoldRead slots ms = after_moves (λ i. None) ms ≡ slot_value slots
+
+-- these are the answers of tests by these moves
+abbrev pub HaveTested : List (Bor Truth) → List Move → Answers → Type 0
+HaveTested tests ms a = HasAnswered (test_at (lent_tests tests)) ms a
 
 -- ---- what is told
 

@@ -1,12 +1,9 @@
 //! The condition of a plan along a walk.
 
-ghost use Rattle.std.specs.Prelude.{◌≡◌, ◌<◌, ◌≤◌, ◌++◌, ◌∷◌, [], List, IfOk, OnOk, OnErr, IsErr, length, true, false, Some, None};
+ghost use Rattle.std.specs.Prelude.{◌≡◌, ◌<◌, ◌≤◌, ◌++◌, ◌∷◌, [], IfOk, OnOk, OnErr, IsErr, length, true, false, Some, None};
 ghost use Rattle.dr_levels.specs.Views.{move_view};
-ghost use Rattle.dr_meaning.specs.Walk.{Move as MeantMove};
-ghost use Rattle.dr_kept_laws.specs.MovedContexts.{after_moves};
-ghost use Rattle.dr_scalar.specs.Slots.{slot_value};
 ghost use Rattle.dr_condition.specs.Parted.{lent_tests, watch_parts};
-ghost use Rattle.dr_condition.specs.Conditions.{watch_in, HasWatched, open_for, failed_for};
+ghost use Rattle.dr_condition.specs.Conditions.{watch_in, HasWatched, open_for, failed_for, OverWatched};
 ghost use Rattle.dr_condition.specs.Watching.{TellsKept, dropped_at};
 
 use crate::parts::Parts;
@@ -69,15 +66,12 @@ impl<'p> Condition<'p> {
         slots: &[Option<ValueRef<'_>>],
     ) -> Result<Told, NoMemory>
         requires { open_for self.old < 64 }
-        ensures kept { IfOk result (λ t. (ms : List MeantMove) → HasWatched self.old ms
-            → after_moves (λ i. None) (ms ++ move_view read.now ∷ []) ≡ slot_value slots.now
-            → TellsKept (watch_in self.old) ms (move_view read.now) t.is_kept) }
-        ensures dropped { IfOk result (λ t. (ms : List MeantMove) → HasWatched self.old ms
-            → after_moves (λ i. None) (ms ++ move_view read.now ∷ []) ≡ slot_value slots.now
-            → t.is_dropped ≡ dropped_at (watch_in self.old) ms (move_view read.now)) }
-        ensures watched { OnOk result ((ms : List MeantMove) → HasWatched self.old ms
-            → after_moves (λ i. None) (ms ++ move_view read.now ∷ []) ≡ slot_value slots.now
-            → HasWatched self.new (ms ++ move_view read.now ∷ [])) }
+        ensures kept { IfOk result (λ t. OverWatched self.old (move_view read.now) slots.now (λ ms.
+            TellsKept (watch_in self.old) ms (move_view read.now) t.is_kept)) }
+        ensures dropped { IfOk result (λ t. OverWatched self.old (move_view read.now) slots.now (λ ms.
+            t.is_dropped ≡ dropped_at (watch_in self.old) ms (move_view read.now))) }
+        ensures watched { OnOk result (OverWatched self.old (move_view read.now) slots.now (λ ms.
+            HasWatched self.new (ms ++ move_view read.now ∷ []))) }
         ensures watches { watch_in self.new ≡ watch_in self.old }
         ensures again { failed_for self.old ≡ true → IsErr result }
         ensures refused { OnErr result (failed_for self.new ≡ true) }
@@ -103,15 +97,12 @@ impl<'p> Condition<'p> {
         slots: &[Option<ValueRef<'_>>],
     ) -> Result<Told, NoMemory>
         requires { open_for self.old < 64 }
-        ensures kept { IfOk result (λ t. (ms : List MeantMove) → HasWatched self.old ms
-            → after_moves (λ i. None) (ms ++ move_view read.now ∷ []) ≡ slot_value slots.now
-            → TellsKept (watch_in self.old) ms (move_view read.now) t.is_kept) }
-        ensures dropped { IfOk result (λ t. (ms : List MeantMove) → HasWatched self.old ms
-            → after_moves (λ i. None) (ms ++ move_view read.now ∷ []) ≡ slot_value slots.now
-            → t.is_dropped ≡ dropped_at (watch_in self.old) ms (move_view read.now)) }
-        ensures watched { OnOk result ((ms : List MeantMove) → HasWatched self.old ms
-            → after_moves (λ i. None) (ms ++ move_view read.now ∷ []) ≡ slot_value slots.now
-            → HasWatched self.new (ms ++ move_view read.now ∷ [])) }
+        ensures kept { IfOk result (λ t. OverWatched self.old (move_view read.now) slots.now (λ ms.
+            TellsKept (watch_in self.old) ms (move_view read.now) t.is_kept)) }
+        ensures dropped { IfOk result (λ t. OverWatched self.old (move_view read.now) slots.now (λ ms.
+            t.is_dropped ≡ dropped_at (watch_in self.old) ms (move_view read.now))) }
+        ensures watched { OnOk result (OverWatched self.old (move_view read.now) slots.now (λ ms.
+            HasWatched self.new (ms ++ move_view read.now ∷ []))) }
         ensures watches { watch_in self.new ≡ watch_in self.old }
     {
         match &mut self.watched {

@@ -1,14 +1,13 @@
 //! The tests of a plan with their answers, and the pruner that goes by them.
 
-ghost use Rattle.std.specs.Prelude.{◌≡◌, ◌<◌, ◌≤◌, ◌++◌, ◌∷◌, [], List, IfOk, OnOk, length, Some, None};
+ghost use Rattle.std.specs.Prelude.{◌≡◌, ◌<◌, ◌≤◌, ◌++◌, ◌∷◌, [], List, IfOk, OnOk, length, Some};
 ghost use Rattle.dr_levels.specs.Views.{move_view};
 ghost use Rattle.dr_meaning.specs.Walk.{Move as MeantMove};
-ghost use Rattle.dr_prune.specs.PartAnswers.{lasts_of, parts_of, tested_to, HasAnswered};
+ghost use Rattle.dr_prune.specs.PartAnswers.{lasts_of, parts_of, tested_to};
 ghost use Rattle.dr_prune.specs.Pruning.{open_in};
-ghost use Rattle.dr_kept_laws.specs.MovedContexts.{after_moves};
 ghost use Rattle.dr_scalar.specs.Slots.{slot_value};
 ghost use Rattle.dr_condition.specs.Parted.{lent_tests, test_at, watch_parts};
-ghost use Rattle.dr_condition.specs.Watching.{watch_with, HaveWatched, TellsKept, dropped_at};
+ghost use Rattle.dr_condition.specs.Watching.{TellsKept, dropped_at, HoldRead, HaveTested};
 
 use crate::parts::{Parts, is_true};
 use crate::told::{Told, is_all_kept, is_left_dropped};
@@ -65,9 +64,9 @@ fn test_at_move(
     answers: &mut Answers,
 ) -> Result<(), NoMemory>
     requires { length tests.now ≡ length (lasts_of answers.old) }
-    ensures answered { OnOk result ((ms : List MeantMove) → HasAnswered (test_at (lent_tests tests.now)) ms answers.old
-        → after_moves (λ i. None) (ms ++ move_view read.now ∷ []) ≡ slot_value slots.now
-        → HasAnswered (test_at (lent_tests tests.now)) (ms ++ move_view read.now ∷ []) answers.new) }
+    ensures answered { OnOk result ((ms : List MeantMove) → HaveTested tests.now ms answers.old
+        → HoldRead slots.now (ms ++ move_view read.now ∷ [])
+        → HaveTested tests.now (ms ++ move_view read.now ∷ []) answers.new) }
     ensures lasts { lasts_of answers.new ≡ lasts_of answers.old }
 {
     match read {
@@ -77,6 +76,8 @@ fn test_at_move(
 }
 
 impl<'p> Watched<'p> {
+    ghost use Rattle.dr_condition.specs.Conditions.{watched_parts, HasSeen, OverSeen};
+
     /// Before any move: tests, each with its last leaf, of which this is the last that is read, with the numbers of the
     /// repeated fields on its path.
     ///
@@ -89,9 +90,9 @@ impl<'p> Watched<'p> {
     ) -> Result<Watched<'p>, NoMemory>
         requires few { length chain.now ≤ 32 }
         requires each { length parts.tests.items ≡ length parts.lasts.items }
-        ensures watches { IfOk result (λ w. watch_with (lent_tests w.tests.items) (lasts_of w.answers) w.pruner
+        ensures watches { IfOk result (λ w. watched_parts w
             ≡ watch_parts chain.now last (lent_tests parts.entry.tests.items) parts.entry.lasts.items) }
-        ensures begins { IfOk result (λ w. HaveWatched (lent_tests w.tests.items) w.answers [] w.pruner) }
+        ensures begins { IfOk result (λ w. HasSeen w []) }
     {
         let answers = Answers::new(alloc, &parts.lasts)?;
         let pruner = Pruner::new(alloc, chain, last)?;
@@ -113,23 +114,13 @@ impl<'p> Watched<'p> {
         slots: &[Option<ValueRef<'_>>],
     ) -> Result<Told, NoMemory>
         requires { open_in (self.old).pruner < 64 }
-        ensures kept { IfOk result (λ t. (ms : List MeantMove)
-            → HaveWatched (lent_tests (self.old).tests.items) (self.old).answers ms (self.old).pruner
-            → after_moves (λ i. None) (ms ++ move_view read.now ∷ []) ≡ slot_value slots.now
-            → TellsKept (Some (watch_with (lent_tests (self.old).tests.items) (lasts_of (self.old).answers)
-            (self.old).pruner)) ms (move_view read.now) t.is_kept) }
-        ensures dropped { IfOk result (λ t. (ms : List MeantMove)
-            → HaveWatched (lent_tests (self.old).tests.items) (self.old).answers ms (self.old).pruner
-            → after_moves (λ i. None) (ms ++ move_view read.now ∷ []) ≡ slot_value slots.now
-            → t.is_dropped ≡ dropped_at (Some (watch_with (lent_tests (self.old).tests.items)
-            (lasts_of (self.old).answers) (self.old).pruner)) ms (move_view read.now)) }
-        ensures watched { OnOk result ((ms : List MeantMove)
-            → HaveWatched (lent_tests (self.old).tests.items) (self.old).answers ms (self.old).pruner
-            → after_moves (λ i. None) (ms ++ move_view read.now ∷ []) ≡ slot_value slots.now
-            → HaveWatched (lent_tests (self.new).tests.items) (self.new).answers (ms ++ move_view read.now ∷ [])
-            (self.new).pruner) }
-        ensures watches { watch_with (lent_tests (self.new).tests.items) (lasts_of (self.new).answers) (self.new).pruner
-            ≡ watch_with (lent_tests (self.old).tests.items) (lasts_of (self.old).answers) (self.old).pruner }
+        ensures kept { IfOk result (λ t. OverSeen self.old (move_view read.now) slots.now (λ ms.
+            TellsKept (Some (watched_parts self.old)) ms (move_view read.now) t.is_kept)) }
+        ensures dropped { IfOk result (λ t. OverSeen self.old (move_view read.now) slots.now (λ ms.
+            t.is_dropped ≡ dropped_at (Some (watched_parts self.old)) ms (move_view read.now))) }
+        ensures watched { OnOk result (OverSeen self.old (move_view read.now) slots.now (λ ms.
+            HasSeen self.new (ms ++ move_view read.now ∷ []))) }
+        ensures watches { watched_parts self.new ≡ watched_parts self.old }
     {
         test_at_move(alloc, read, &self.tests, slots, &mut self.answers)?;
         let depth = self.pruner.open();

@@ -3,6 +3,8 @@ use Rattle.std.specs.Prelude.{◌≡◌, ℕ, suc, ◌+◌, ◌≤◌, ◌<◌, 
 use Rattle.dr_meaning.specs.Path.{Leaf, max_definition}
 use Rattle.dr_meaning.specs.Column.{Triplet}
 use Rattle.dr_levels.specs.Views.{LeafForm}
+use Rattle.dr_outside.specs.Link.{LinkShown}
+use Rattle.dr_outside.specs.Telling.{Tells}
 use Rattle.dr_chunk.specs.Ranges.{inside}
 use Rattle.dr_chunk.specs.Takers.{IsLeafOf, leaf_form}
 use Rattle.dr_chunk.specs.Taking as taking
@@ -105,3 +107,15 @@ pub record IsLeafOfFile (file : Opened) (field : OpenedField) (s : LeafStream) :
   pub path : path_of s ≡ string_bytes file.path
   pub footer : footer_of s ≡ file.footer
   pub leaf : leaf_of s ≡ field.read
+
+-- what is said of a call, over whatever triplets the stream gave of a leaf
+abbrev pub OverLeafStream : LeafStream → (List ℕ → Leaf → List Triplet → Type 0) → Type 0
+OverLeafStream s says = (bytes : List ℕ) (l : Leaf) (given : List Triplet) → IsAt bytes l given s → says bytes l given
+
+-- the same, where the link tells the file
+abbrev pub OverToldLeaf : LinkShown → LeafStream → (List ℕ → Leaf → List Triplet → Type 0) → Type 0
+OverToldLeaf link s says = OverLeafStream s (λ bytes l given. Tells link (path_of s) bytes → says bytes l given)
+
+-- its chunks don't spell triplets of the leaf
+abbrev pub SpellsNone : List ℕ → Leaf → LeafStream → Type 0
+SpellsNone bytes l s = leaf_triplets bytes (footer_of s) l (shown_chunks s) ≡ None

@@ -1,5 +1,6 @@
 -- Opened files, and the faults of files.
 use Rattle.std.specs.Prelude.{◌≡◌, ℕ, List, map, length, Bool, true, false, Option, Some, None, Result, Ok, Err, string_bytes, ⊤}
+use Rattle.std.specs.List.{slice_get}
 use Rattle.dr_meaning.specs.Path.{Leaf}
 use Rattle.dr_meaning.specs.Column.{Triplet}
 use Rattle.dr_formats.specs.File.{FileCause, bad_footer, bad_schema, bad_codec, bad_data, Footer, footer_of, footer_place, given_column}
@@ -25,6 +26,14 @@ path_of o = string_bytes o.path
 -- a file of these bytes was opened for these leaves: its footer is there and shows no cause, and what it says of them is kept
 abbrev pub IsOpened : List ℕ → List Leaf → Opened → Type 0
 IsOpened bytes F o = (o.footer ≡ footer_place bytes) × IsOpenedAs (footer_of bytes) F o.rows (map opened_field_view o.leaves.items)
+
+-- what is said of the leaf at an index of those for which the file was opened, by these bytes
+abbrev pub OverLeafAt : Opened → ℕ → (List ℕ → Leaf → Type 0) → Type 0
+OverLeafAt o index says = (bytes : List ℕ) (F : List Leaf) (l : Leaf) → IsOpened bytes F o → slice_get F index ≡ Some l → says bytes l
+
+-- the same, by the footer of the bytes
+abbrev pub OverLeafByFooter : Opened → ℕ → (Footer → Leaf → Type 0) → Type 0
+OverLeafByFooter o index says = (bytes : List ℕ) (F : List Leaf) (l : Leaf) (f : Footer) → IsOpened bytes F o → slice_get F index ≡ Some l → footer_of bytes ≡ Some f → says f l
 
 -- a fault that bytes show is this cause of theirs; want of memory and a link's failure may come in place of anything
 abbrev pub IsCauseOf : FileFault → Option FileCause → Type 0

@@ -10,13 +10,15 @@ use Rattle.dr_formats.specs.Lacking.{Source, own_chunks, no_chunks, outline}
 use Rattle.dr_formats.specs.Lacking as Lacking
 use Rattle.dr_nested.specs.Views.{kind_view}
 use Rattle.dr_levels.specs.Views.{LeafForm, form}
+use Rattle.dr_outside.specs.Link.{LinkShown}
+use Rattle.dr_outside.specs.Telling.{Tells}
 use Rattle.dr_chunk.specs.Taking.{BeginWith}
 use Rattle.dr_file.specs.Fields.{ShownTelling, itself, nulls, outlined, telling_view, told}
 use Rattle.dr_file.specs.Openings.{ShownChunk, chunk_place_view}
 use Rattle.dr_file.specs.LeafColumns.{shown_range, IsShownLeaf}
 use Rattle.dr_file.specs.LeafStreams as leaf_stream
 use Rattle.dr_file.specs.LeafStreams.{leaf_triplets, IsAt}
-use Rattle.dr_file.specs.OpenedFiles.{IsColumnOf}
+use Rattle.dr_file.specs.OpenedFiles.{IsColumnOf, path_of}
 use Rattle.dr_file.specs.declared.opened.Opened.{Opened}
 use Rattle.dr_file.specs.declared.opened_field.OpenedField.{OpenedField}
 use Rattle.dr_file.specs.declared.file_fault.FileFault.{FileFault}
@@ -117,6 +119,10 @@ pub record IsStreamOf (bytes : List ℕ) (l : Leaf) (given : List Triplet) (s : 
   pub source : List Triplet
   pub at : IsAt bytes leaf.read source s.leaf
   pub tells : GivenBy (telling_of s) s.file.now.rows source given s.rows
+
+-- what is said of a call, over whatever triplets the stream gave of a leaf, where the link tells the file
+abbrev pub OverStream : LinkShown → Stream → (List ℕ → Leaf → List Triplet → Type 0) → Type 0
+OverStream link s says = (bytes : List ℕ) (l : Leaf) (given : List Triplet) → IsStreamOf bytes l given s → Tells link (path_of (file_of s)) bytes → says bytes l given
 
 -- more joined a column; or nothing did, and what was given is the leaf's column
 abbrev pub StreamGoesOn : List ℕ → Leaf → List Triplet → List Triplet → List Triplet → Stream → Bool → Type 0

@@ -8,16 +8,14 @@ use dr_outside::Link;
 use std::alloc::Global;
 
 impl Opened {
-    ghost use Rattle.std.specs.Prelude.{◌≡◌, ◌≤◌, ◌<◌, ℕ, List, [], ◌∷◌, length, Some, IfOk, IfErr};
-    ghost use Rattle.std.specs.List.{slice_get, flat_map};
-    ghost use Rattle.dr_meaning.specs.Path.{Leaf, max_definition};
-    ghost use Rattle.dr_formats.specs.File.{Footer, footer_of, leaves_read, most_triplets};
-    ghost use Rattle.dr_formats.specs.Opening.{leaf_cause, leaf_ranges};
+    ghost use Rattle.std.specs.Prelude.{◌≡◌, ◌≤◌, ◌<◌, [], ◌∷◌, length, IfOk, IfErr};
+    ghost use Rattle.dr_meaning.specs.Path.{max_definition};
+    ghost use Rattle.dr_formats.specs.File.{most_triplets};
+    ghost use Rattle.dr_formats.specs.Opening.{leaf_cause};
     ghost use Rattle.dr_levels.specs.Views.{column_view, column_form, form};
     ghost use Rattle.dr_outside.specs.Telling.{Tells, AsksOnly};
-    ghost use Rattle.dr_chunk.specs.Ranges.{is_read_inside};
-    ghost use Rattle.dr_file.specs.Asking.{is_for_path};
-    ghost use Rattle.dr_file.specs.OpenedFiles.{IsOpened, IsColumnOf, IsColumnFault, leaf_count, path_of};
+    ghost use Rattle.dr_file.specs.Asking.{is_for_path, AsksForLeaves};
+    ghost use Rattle.dr_file.specs.OpenedFiles.{IsColumnOf, IsColumnFault, leaf_count, path_of, OverLeafAt, OverLeafByFooter};
     ghost use Rattle.dr_file.specs.Leaving.{LeavesLinkCounted, ServesOpened};
 
     /// The column of the leaf at an index of those that the file was opened for. The link is asked for bytes of the
@@ -32,19 +30,15 @@ impl Opened {
         index: usize,
     ) -> Result<Column, FileFault>
         requires { index < leaf_count self.now }
-        ensures column { (bytes : List ℕ) (F : List Leaf) (l : Leaf) → IsOpened bytes F self.now → slice_get F index
-            ≡ Some l → Tells (L.shows link.old) (path_of self.now) bytes
-            → IfOk result (λ c. IsColumnOf bytes l (column_view c)) }
-        ensures cause { (bytes : List ℕ) (F : List Leaf) (l : Leaf) → IsOpened bytes F self.now → slice_get F index
-            ≡ Some l → Tells (L.shows link.old) (path_of self.now) bytes
-            → IfErr result (λ e. IsColumnFault e (leaf_cause bytes l)) }
+        ensures column { OverLeafAt self.now index (λ bytes l. Tells (L.shows link.old) (path_of self.now) bytes
+            → IfOk result (λ c. IsColumnOf bytes l (column_view c))) }
+        ensures cause { OverLeafAt self.now index (λ bytes l. Tells (L.shows link.old) (path_of self.now) bytes
+            → IfErr result (λ e. IsColumnFault e (leaf_cause bytes l))) }
         ensures few { IfOk result (λ c. length (column_view c) ≤ most_triplets) }
-        ensures form { (bytes : List ℕ) (F : List Leaf) (l : Leaf) → IsOpened bytes F self.now → slice_get F index
-            ≡ Some l → IfOk result (λ c. column_form c ≡ form l.kind (max_definition l.path)) }
-        ensures asked { (bytes : List ℕ) (F : List Leaf) (l : Leaf) (f : Footer) → IsOpened bytes F self.now
-            → slice_get F index ≡ Some l → footer_of bytes ≡ Some f
-            → AsksOnly (is_read_inside (path_of self.now) (flat_map (leaf_ranges f) (leaves_read f (l ∷ []))))
-            (L.shows link.old).asked (L.shows link.new).asked }
+        ensures form { OverLeafAt self.now index (λ bytes l.
+            IfOk result (λ c. column_form c ≡ form l.kind (max_definition l.path))) }
+        ensures asked { OverLeafByFooter self.now index (λ f l.
+            AsksForLeaves f (l ∷ []) (path_of self.now) (L.shows link.old) (L.shows link.new)) }
         ensures paths { AsksOnly (is_for_path (path_of self.now)) (L.shows link.old).asked (L.shows link.new).asked }
         ensures link { LeavesLinkCounted result (ServesOpened (L.shows link.old) self.now) (L.shows link.old)
             (L.shows link.new) }

@@ -50,19 +50,17 @@ pub(crate) struct LeafStream<'f> {
 }
 
 impl<'f> LeafStream<'f> {
-    ghost use Rattle.std.specs.Prelude.{◌≢◌, ◌+◌, ◌++◌, [], ℕ, List, None, Some, Ok, Err, IfOk, OnOk, OnErr};
+    ghost use Rattle.std.specs.Prelude.{◌≢◌, ◌+◌, [], ℕ, List, None, Some, Ok, Err, IfOk, OnOk, OnErr};
     ghost use Rattle.std.specs.List.{flat_map};
     ghost use Rattle.dr_meaning.specs.Path.{Leaf, max_definition};
-    ghost use Rattle.dr_meaning.specs.Column.{Triplet};
     ghost use Rattle.dr_formats.specs.File.{most_triplets};
     ghost use Rattle.dr_levels.specs.Views.{column_form, form};
-    ghost use Rattle.dr_outside.specs.Telling.{Tells, AsksOnly};
+    ghost use Rattle.dr_outside.specs.Telling.{AsksOnly};
     ghost use Rattle.dr_outside.specs.Leaving.{LeavesLink, ServesUntil};
     ghost use Rattle.dr_chunk.specs.Ranges.{is_read_inside};
     ghost use Rattle.dr_file.specs.ChunkPlaces.{all_values};
-    ghost use Rattle.dr_file.specs.Openings.{chunk_place_view};
     ghost use Rattle.dr_file.specs.LeafColumns.{shown_range, IsShownLeaf};
-    ghost use Rattle.dr_file.specs.LeafStreams.{path_of, footer_of, leaf_of, shown_chunks, left_of, stream_form, held_of, leaf_triplets, IsAt, GoesOn};
+    ghost use Rattle.dr_file.specs.LeafStreams.{path_of, footer_of, leaf_of, shown_chunks, left_of, stream_form, held_of, leaf_triplets, IsAt, GoesOn, OverLeafStream, OverToldLeaf, SpellsNone};
 
     /// Before the first triplet of a leaf of the file at this path, whose footer begins at this byte offset.
     ///
@@ -125,15 +123,12 @@ impl<'f> LeafStream<'f> {
         out: &mut Column,
     ) -> Result<usize, ChunkFault>
         requires { column_form out.old ≡ stream_form self.old }
-        ensures more { (bytes : List ℕ) (l : Leaf) (given : List Triplet) → IsAt bytes l given self.old
-            → Tells (L.shows link.old) (path_of self.old) bytes
-            → OnOk result (GoesOn bytes l given (column_view out.old) (column_view out.new) self.new) }
-        ensures whole { (bytes : List ℕ) (l : Leaf) (given : List Triplet) → IsAt bytes l given self.old
-            → Tells (L.shows link.old) (path_of self.old) bytes → result ≡ Ok 0
-            → leaf_triplets bytes (footer_of self.old) l (shown_chunks self.old) ≡ Some given }
-        ensures bad { (bytes : List ℕ) (l : Leaf) (given : List Triplet) → IsAt bytes l given self.old
-            → Tells (L.shows link.old) (path_of self.old) bytes → result ≡ Err ChunkFault.BadData
-            → leaf_triplets bytes (footer_of self.old) l (shown_chunks self.old) ≡ None }
+        ensures more { OverToldLeaf (L.shows link.old) self.old (λ bytes l given.
+            OnOk result (GoesOn bytes l given (column_view out.old) (column_view out.new) self.new)) }
+        ensures whole { OverToldLeaf (L.shows link.old) self.old (λ bytes l given. result ≡ Ok 0
+            → leaf_triplets bytes (footer_of self.old) l (shown_chunks self.old) ≡ Some given) }
+        ensures bad { OverToldLeaf (L.shows link.old) self.old (λ bytes l given.
+            result ≡ Err ChunkFault.BadData → SpellsNone bytes l self.old) }
         ensures count { IfOk result (λ n. length (column_view out.new) ≡ length (column_view out.old) + n) }
         ensures left { IfOk result (λ n. n + left_of self.new ≡ left_of self.old) }
         ensures batch { IfOk result (λ n. n ≤ 1024) }
@@ -164,11 +159,9 @@ impl<'f> LeafStream<'f> {
     fn begin_chunk(&mut self, alloc: Global) -> Result<(), ChunkFault>
         requires over { taking.left_of (self.old).reader ≡ 0 }
         requires some { (self.old).next < length (leaf_of self.old).chunks.items }
-        ensures more { (bytes : List ℕ) (l : Leaf) (given : List Triplet) → IsAt bytes l given self.old
-            → OnOk result (IsAt bytes l given self.new) }
-        ensures bad { (bytes : List ℕ) (l : Leaf) (given : List Triplet) → IsAt bytes l given self.old
-            → result ≡ Err ChunkFault.BadData
-            → leaf_triplets bytes (footer_of self.old) l (shown_chunks self.old) ≡ None }
+        ensures more { OverLeafStream self.old (λ bytes l given. OnOk result (IsAt bytes l given self.new)) }
+        ensures bad { OverLeafStream self.old (λ bytes l given.
+            result ≡ Err ChunkFault.BadData → SpellsNone bytes l self.old) }
         ensures calm { result ≢ Err ChunkFault.Failed }
         ensures left { OnOk result (left_of self.new ≡ left_of self.old) }
         ensures goes_on { OnOk result ((self.new).next ≡ (self.old).next + 1) }
@@ -199,12 +192,10 @@ impl<'f> LeafStream<'f> {
     ) -> Result<usize, ChunkFault>
         requires form { column_form out.old ≡ stream_form self.old }
         requires some { 0 < taking.left_of (self.old).reader }
-        ensures more { (bytes : List ℕ) (l : Leaf) (given : List Triplet) → IsAt bytes l given self.old
-            → Tells (L.shows link.old) (path_of self.old) bytes
-            → OnOk result (GoesOn bytes l given (column_view out.old) (column_view out.new) self.new) }
-        ensures bad { (bytes : List ℕ) (l : Leaf) (given : List Triplet) → IsAt bytes l given self.old
-            → Tells (L.shows link.old) (path_of self.old) bytes → result ≡ Err ChunkFault.BadData
-            → leaf_triplets bytes (footer_of self.old) l (shown_chunks self.old) ≡ None }
+        ensures more { OverToldLeaf (L.shows link.old) self.old (λ bytes l given.
+            OnOk result (GoesOn bytes l given (column_view out.old) (column_view out.new) self.new)) }
+        ensures bad { OverToldLeaf (L.shows link.old) self.old (λ bytes l given.
+            result ≡ Err ChunkFault.BadData → SpellsNone bytes l self.old) }
         ensures count { IfOk result (λ n. length (column_view out.new) ≡ length (column_view out.old) + n) }
         ensures left { IfOk result (λ n. n + left_of self.new ≡ left_of self.old) }
         ensures batch { IfOk result (λ n. n ≤ 1024) }

@@ -57,21 +57,20 @@ pub struct Stream<'f> {
 }
 
 impl<'f> Stream<'f> {
-    ghost use Rattle.std.specs.Prelude.{◌≢◌, ◌≤◌, ◌<◌, ◌+◌, ◌++◌, ◌∷◌, [], ℕ, List, length, false, Some, None, Ok, Err, IfOk, IfErr, OnErr};
-    ghost use Rattle.std.specs.List.{slice_get, flat_map};
+    ghost use Rattle.std.specs.Prelude.{◌≢◌, ◌≤◌, ◌<◌, ◌∷◌, [], ℕ, List, length, false, Some, None, Ok, Err, IfOk, IfErr, OnErr};
     ghost use Rattle.dr_meaning.specs.Path.{Leaf, max_definition};
     ghost use Rattle.dr_meaning.specs.Column.{Triplet};
-    ghost use Rattle.dr_formats.specs.File.{Footer, footer_of, leaves_read, most_triplets, bad_data};
-    ghost use Rattle.dr_formats.specs.Opening.{leaf_cause, leaf_ranges};
+    ghost use Rattle.dr_formats.specs.File.{Footer, footer_of, most_triplets, bad_data};
+    ghost use Rattle.dr_formats.specs.Opening.{leaf_cause};
     ghost use Rattle.dr_levels.specs.Views.{column_view};
-    ghost use Rattle.dr_outside.specs.Telling.{Tells, AsksOnly};
+    ghost use Rattle.dr_outside.specs.Telling.{AsksOnly};
     ghost use Rattle.dr_outside.specs.Leaving.{LeavesLink, ServesUntil};
     ghost use Rattle.dr_chunk.specs.Ranges.{is_read_inside};
-    ghost use Rattle.dr_file.specs.Asking.{is_for_path};
+    ghost use Rattle.dr_file.specs.Asking.{is_for_path, AsksForLeaves};
     ghost use Rattle.dr_file.specs.Fields.{nulls, outlined};
-    ghost use Rattle.dr_file.specs.OpenedFiles.{IsOpened, IsColumnOf, IsColumnFault, leaf_count, path_of};
+    ghost use Rattle.dr_file.specs.OpenedFiles.{IsColumnFault, leaf_count, path_of, OverLeafAt, OverLeafByFooter};
     ghost use Rattle.dr_file.specs.Leaving.{LeavesLinkCounted, ServesOpened};
-    ghost use Rattle.dr_file.specs.Streams.{IsOfLeaf, IsStreamOf, StreamGoesOn, file_of, field_of, telling_of, ranges_of, stream_form, left_of, triplets_named, held_of, refused_of, fault_of, Fills, Reads};
+    ghost use Rattle.dr_file.specs.Streams.{IsOfLeaf, IsStreamOf, StreamGoesOn, file_of, field_of, telling_of, ranges_of, stream_form, left_of, triplets_named, held_of, refused_of, fault_of, Fills, Reads, OverStream};
 
     /// The column of the leaf at an index of those that the file was opened for, before its first triplet. Nothing is
     /// read yet.
@@ -79,15 +78,13 @@ impl<'f> Stream<'f> {
     /// Errors: want of memory alone.
     pub fn start(alloc: Global, file: &'f Opened, index: usize) -> Result<Stream<'f>, NoMemory>
         requires { index < leaf_count file.now }
-        ensures begun { (bytes : List ℕ) (F : List Leaf) (l : Leaf) → IsOpened bytes F file.now → slice_get F index
-            ≡ Some l → IfOk result (IsStreamOf bytes l []) }
-        ensures form { (bytes : List ℕ) (F : List Leaf) (l : Leaf) → IsOpened bytes F file.now → slice_get F index
-            ≡ Some l → IfOk result (λ s. stream_form s ≡ form l.kind (max_definition l.path)) }
+        ensures begun { OverLeafAt file.now index (λ bytes l. IfOk result (IsStreamOf bytes l [])) }
+        ensures form { OverLeafAt file.now index (λ bytes l.
+            IfOk result (λ s. stream_form s ≡ form l.kind (max_definition l.path))) }
         ensures file { IfOk result (λ s. file_of s ≡ file.now) }
         ensures few { IfOk result (λ s. left_of s ≤ most_triplets) }
         // As many may come as the footer names for the leaf.
-        ensures left { (bytes : List ℕ) (F : List Leaf) (l : Leaf) (f : Footer) → IsOpened bytes F file.now
-            → slice_get F index ≡ Some l → footer_of bytes ≡ Some f → IfOk result (λ s. left_of s ≡ triplets_named f l) }
+        ensures left { OverLeafByFooter file.now index (λ f l. IfOk result (λ s. left_of s ≡ triplets_named f l)) }
         ensures refused { IfOk result (λ s. refused_of s ≡ None) }
     {
         let field = &file.leaves[index];
@@ -128,12 +125,10 @@ impl<'f> Stream<'f> {
     ) -> Result<bool, FileFault>
         requires { column_form out.old ≡ stream_form self.old }
         // What was given goes on by what joined the column; where nothing did, it was the leaf's column.
-        ensures more { (bytes : List ℕ) (l : Leaf) (given : List Triplet) → IsStreamOf bytes l given self.old
-            → Tells (L.shows link.old) (path_of (file_of self.old)) bytes
-            → IfOk result (StreamGoesOn bytes l given (column_view out.old) (column_view out.new) self.new) }
-        ensures cause { (bytes : List ℕ) (l : Leaf) (given : List Triplet) → IsStreamOf bytes l given self.old
-            → Tells (L.shows link.old) (path_of (file_of self.old)) bytes
-            → IfErr result (λ e. IsColumnFault e (leaf_cause bytes l)) }
+        ensures more { OverStream (L.shows link.old) self.old (λ bytes l given.
+            IfOk result (StreamGoesOn bytes l given (column_view out.old) (column_view out.new) self.new)) }
+        ensures cause { OverStream (L.shows link.old) self.old (λ bytes l given.
+            IfErr result (λ e. IsColumnFault e (leaf_cause bytes l))) }
         // Whatever the bytes.
         ensures fills { IfOk result (λ some. Fills some (length (column_view out.old)) (length (column_view out.new))
             (left_of self.old) (left_of self.new)) }
@@ -142,9 +137,9 @@ impl<'f> Stream<'f> {
         ensures stream_form { stream_form self.new ≡ stream_form self.old }
         ensures file { file_of self.new ≡ file_of self.old }
         ensures leaf { (bytes : List ℕ) (l : Leaf) → IsOfLeaf bytes l self.old → IsOfLeaf bytes l self.new }
-        ensures asked { (bytes : List ℕ) (l : Leaf) (f : Footer) → IsOfLeaf bytes l self.old → footer_of bytes ≡ Some f
-            → AsksOnly (is_read_inside (path_of (file_of self.old)) (flat_map (leaf_ranges f)
-            (leaves_read f (l ∷ [])))) (L.shows link.old).asked (L.shows link.new).asked }
+        ensures asked { (bytes : List ℕ) (l : Leaf) (f : Footer) → IsOfLeaf bytes l self.old
+            → footer_of bytes ≡ Some f
+            → AsksForLeaves f (l ∷ []) (path_of (file_of self.old)) (L.shows link.old) (L.shows link.new) }
         ensures paths { AsksOnly (is_for_path (path_of (file_of self.old))) (L.shows link.old).asked
             (L.shows link.new).asked }
         ensures link { refused_of self.old ≡ None
@@ -185,12 +180,10 @@ impl<'f> Stream<'f> {
         out: &mut Column,
     ) -> Result<bool, ChunkFault>
         requires { column_form out.old ≡ stream_form self.old }
-        ensures more { (bytes : List ℕ) (l : Leaf) (given : List Triplet) → IsStreamOf bytes l given self.old
-            → Tells (L.shows link.old) (path_of (file_of self.old)) bytes
-            → IfOk result (StreamGoesOn bytes l given (column_view out.old) (column_view out.new) self.new) }
-        ensures bad { (bytes : List ℕ) (l : Leaf) (given : List Triplet) → IsStreamOf bytes l given self.old
-            → Tells (L.shows link.old) (path_of (file_of self.old)) bytes → result ≡ Err ChunkFault.BadData
-            → leaf_cause bytes l ≡ Some bad_data }
+        ensures more { OverStream (L.shows link.old) self.old (λ bytes l given.
+            IfOk result (StreamGoesOn bytes l given (column_view out.old) (column_view out.new) self.new)) }
+        ensures bad { OverStream (L.shows link.old) self.old (λ bytes l given.
+            result ≡ Err ChunkFault.BadData → leaf_cause bytes l ≡ Some bad_data) }
         ensures fills { IfOk result (λ some. Fills some (length (column_view out.old)) (length (column_view out.new))
             (left_of self.old) (left_of self.new)) }
         ensures stays { OnErr result (column_view out.new ≡ column_view out.old) }
@@ -220,12 +213,10 @@ impl<'f> Stream<'f> {
     ) -> Result<bool, ChunkFault>
         requires told { telling_of self.old ≡ itself }
         requires form { column_form out.old ≡ stream_form self.old }
-        ensures more { (bytes : List ℕ) (l : Leaf) (given : List Triplet) → IsStreamOf bytes l given self.old
-            → Tells (L.shows link.old) (path_of (file_of self.old)) bytes
-            → IfOk result (StreamGoesOn bytes l given (column_view out.old) (column_view out.new) self.new) }
-        ensures bad { (bytes : List ℕ) (l : Leaf) (given : List Triplet) → IsStreamOf bytes l given self.old
-            → Tells (L.shows link.old) (path_of (file_of self.old)) bytes → result ≡ Err ChunkFault.BadData
-            → leaf_cause bytes l ≡ Some bad_data }
+        ensures more { OverStream (L.shows link.old) self.old (λ bytes l given.
+            IfOk result (StreamGoesOn bytes l given (column_view out.old) (column_view out.new) self.new)) }
+        ensures bad { OverStream (L.shows link.old) self.old (λ bytes l given.
+            result ≡ Err ChunkFault.BadData → leaf_cause bytes l ≡ Some bad_data) }
         ensures fills { IfOk result (λ some. Fills some (length (column_view out.old)) (length (column_view out.new))
             (left_of self.old) (left_of self.new)) }
         ensures stays { OnErr result (column_view out.new ≡ column_view out.old) }
@@ -278,12 +269,10 @@ impl<'f> Stream<'f> {
     ) -> Result<bool, ChunkFault>
         requires told { telling_of self.old ≡ outlined most.repetition most.definition }
         requires form { column_form out.old ≡ stream_form self.old }
-        ensures more { (bytes : List ℕ) (l : Leaf) (given : List Triplet) → IsStreamOf bytes l given self.old
-            → Tells (L.shows link.old) (path_of (file_of self.old)) bytes
-            → IfOk result (StreamGoesOn bytes l given (column_view out.old) (column_view out.new) self.new) }
-        ensures bad { (bytes : List ℕ) (l : Leaf) (given : List Triplet) → IsStreamOf bytes l given self.old
-            → Tells (L.shows link.old) (path_of (file_of self.old)) bytes → result ≡ Err ChunkFault.BadData
-            → leaf_cause bytes l ≡ Some bad_data }
+        ensures more { OverStream (L.shows link.old) self.old (λ bytes l given.
+            IfOk result (StreamGoesOn bytes l given (column_view out.old) (column_view out.new) self.new)) }
+        ensures bad { OverStream (L.shows link.old) self.old (λ bytes l given.
+            result ≡ Err ChunkFault.BadData → leaf_cause bytes l ≡ Some bad_data) }
         ensures fills { IfOk result (λ some. Fills some (length (column_view out.old)) (length (column_view out.new))
             (left_of self.old) (left_of self.new)) }
         ensures stays { OnErr result (column_view out.new ≡ column_view out.old) }
@@ -318,12 +307,10 @@ impl<'f> Stream<'f> {
     ) -> Result<bool, ChunkFault>
         requires told { telling_of self.old ≡ outlined most.repetition most.definition }
         requires form { column_form out.old ≡ stream_form self.old }
-        ensures more { (bytes : List ℕ) (l : Leaf) (given : List Triplet) → IsStreamOf bytes l given self.old
-            → Tells (L.shows link.old) (path_of (file_of self.old)) bytes
-            → IfOk result (StreamGoesOn bytes l given (column_view out.old) (column_view out.new) self.new) }
-        ensures bad { (bytes : List ℕ) (l : Leaf) (given : List Triplet) → IsStreamOf bytes l given self.old
-            → Tells (L.shows link.old) (path_of (file_of self.old)) bytes → result ≡ Err ChunkFault.BadData
-            → leaf_cause bytes l ≡ Some bad_data }
+        ensures more { OverStream (L.shows link.old) self.old (λ bytes l given.
+            IfOk result (StreamGoesOn bytes l given (column_view out.old) (column_view out.new) self.new)) }
+        ensures bad { OverStream (L.shows link.old) self.old (λ bytes l given.
+            result ≡ Err ChunkFault.BadData → leaf_cause bytes l ≡ Some bad_data) }
         ensures reads { IfOk result (λ some. Reads some (column_view out.old) (column_view out.new) (left_of self.old)
             (left_of self.new)) }
         ensures stays { OnErr result (column_view out.new ≡ column_view out.old) }

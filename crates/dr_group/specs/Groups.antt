@@ -1,5 +1,6 @@
 -- Groups that are held, and their places in the order of key tuples.
-use Rattle.std.specs.Prelude.{ℕ, List, [], map, get_or, slice_set, Option, option_map}
+use Rattle.std.specs.Prelude.{ℕ, List, [], map, get_or, slice_set, Option, option_map, Result}
+use Rattle.dr_memory.specs.declared.NoMemory.{NoMemory}
 use Rattle.dr_meaning.specs.Record.{Value}
 use Rattle.dr_partials.specs.Partials as meant
 use Rattle.dr_partials.specs.Accumulators as accumulators
@@ -7,7 +8,7 @@ use Rattle.dr_partials.specs.Putting as putting
 use Rattle.dr_levels.specs.declared.triplet.ValueRef.{ValueRef}
 use Rattle.dr_group.specs.Views.{accumulator_view, cell_view, lent_cell}
 use Rattle.dr_group.specs.declared.accumulator.Accumulator.{Accumulator}
-use Rattle.dr_group.specs.Gathering.{taken_by}
+use Rattle.dr_group.specs.Gathering.{Becomes, taken_by}
 use Rattle.dr_group.specs.declared.gathering.Gathering.{Gathering}
 use Rattle.dr_group.specs.declared.group.Group.{Group}
 use Rattle.dr_group.specs.declared.group.Taken.{Taken}
@@ -57,3 +58,7 @@ with_accumulators g xs = record { keys = g.keys; accumulators = xs }
 -- the group of a number takes a value
 abbrev pub taken_at : List Gathering → ℕ → Option putting.Taken → List meant.Group → List meant.Group
 taken_at ks k t gs = slice_set gs k (with_accumulators (get_or gs k no_group) (taken_by ks t (get_or gs k no_group).accumulators))
+
+-- accumulators have taken what is taken, if anything; or nothing has changed
+abbrev pub TakesInto : List Gathering → Option Taken → List Accumulator → List Accumulator → Result (Unit {0}) NoMemory → Type 0
+TakesInto ks t before after result = Becomes (accumulators_view before) (accumulators_view after) (taken_by ks (option_map taken_view t) (accumulators_view before)) result

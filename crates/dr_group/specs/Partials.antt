@@ -1,8 +1,13 @@
 -- What a partial stands for, and of which plan it is.
-use Rattle.std.specs.Prelude.{◌≡◌}
+use Rattle.std.specs.Prelude.{◌≡◌, List}
+use Rattle.dr_meaning.specs.Schema.{Schema}
+use Rattle.dr_meaning.specs.Record.{Node}
 use Rattle.dr_meaning.specs.Query.{Selection, objects, groups}
 use Rattle.dr_partials.specs.Partials as meant
-use Rattle.dr_plan.specs.Planned.{Planned}
+use Rattle.dr_partials.specs.Partials.{empty_partial}
+use Rattle.dr_partials.specs.Putting.{Put, put, put_all}
+use Rattle.dr_plan.specs.Planned.{Planned, planned_query, plan_view}
+use Rattle.dr_plan.specs.declared.plan.Plan.{Plan}
 use Rattle.dr_cells.specs.Rows.{rows_view, rows_shape}
 use Rattle.dr_cells.specs.Shapes.{plan_shape}
 use Rattle.dr_group.specs.Gathering.{gatherings_of}
@@ -24,6 +29,26 @@ GathersFor (groups keys items) m = gatherings_of items ≡ gatherings_view m
 abbrev pub IsPartialOf : Planned → Partial → Type 0
 IsPartialOf p (Partial.Lines r) = rows_shape r ≡ plan_shape p
 IsPartialOf p (Partial.Groups m) = GathersFor p.selection m
+
+-- the partial of a query has become that with these puts, in order
+abbrev pub HasTaken : Planned → List Put → Partial → Partial → Type 0
+HasTaken p puts before after = partial_view after ≡ put_all (planned_query p) puts (partial_view before)
+
+-- the same of one put
+abbrev pub HasTakenOne : Planned → Put → Partial → Partial → Type 0
+HasTakenOne p one before after = partial_view after ≡ put (planned_query p) one (partial_view before)
+
+-- the same, whatever query it is a partial of
+abbrev pub TakesPuts : List Put → Partial → Partial → Type 0
+TakesPuts puts before after = (p : Planned) → IsPartialOf p before → HasTaken p puts before after
+
+-- a partial of these puts alone
+abbrev pub IsOfPuts : Planned → List Put → Partial → Type 0
+IsOfPuts p puts x = partial_view x ≡ put_all (planned_query p) puts (empty_partial (planned_query p))
+
+-- a partial of these records for a plan of their schema
+abbrev pub IsOfRecords : Schema → Plan → List Node → Partial → Type 0
+IsOfRecords s p R x = partial_view x ≡ meant.partial_of s.fields (planned_query (plan_view p)) R
 
 -- two partials of one query: their lines have one shape
 abbrev pub AreAlike : Partial → Partial → Type 0

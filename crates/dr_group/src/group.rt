@@ -1,9 +1,9 @@
 //! Groups of an aggregate query.
 
-ghost use Rattle.std.specs.Prelude.{◌≡◌, IfOk, map, option_map};
+ghost use Rattle.std.specs.Prelude.{◌≡◌, IfOk, map};
 ghost use Rattle.dr_group.specs.Views.{lent_cell, cell_view};
-ghost use Rattle.dr_group.specs.Gathering.{Becomes, taken_by, new_group_by, empty_of, gathering_view};
-ghost use Rattle.dr_group.specs.Groups.{accumulators_view, group_view, taken_view, put_view};
+ghost use Rattle.dr_group.specs.Gathering.{new_group_by, empty_of, gathering_view};
+ghost use Rattle.dr_group.specs.Groups.{accumulators_view, group_view, put_view, TakesInto};
 ghost use Rattle.dr_group.specs.RowPartials.{gathered_of_rows};
 
 use crate::accumulator::Accumulator;
@@ -37,9 +37,7 @@ pub fn take_into(
     accumulators: &mut Vec<Accumulator>,
     taken: Option<Taken<'_>>,
 ) -> Result<(), NoMemory>
-    ensures { Becomes (accumulators_view (accumulators.old).items) (accumulators_view (accumulators.new).items)
-        (taken_by gatherings.now (option_map taken_view taken.entry) (accumulators_view (accumulators.old).items))
-        result }
+    ensures { TakesInto gatherings.now taken.entry (accumulators.old).items (accumulators.new).items result }
 {
     let Some(taken) = taken else {
         return Ok(());

@@ -10,7 +10,7 @@ ghost use Rattle.dr_group.specs.Gathering.{Becomes, gatherings_of, put_by};
 ghost use Rattle.dr_group.specs.Groups.{group_view, put_of, put_view, taken_view, taken_at};
 ghost use Rattle.dr_group.specs.Distinct.{IsFound};
 ghost use Rattle.dr_group.specs.Finding.{IsReady};
-ghost use Rattle.dr_group.specs.Maps.{groups_view, gatherings_view, tuples_view};
+ghost use Rattle.dr_group.specs.Maps.{groups_view, gatherings_view, tuples_view, groups_in, PutsInto, PutsAt};
 
 use crate::entering::enter;
 use crate::group::{Taken, new_group, take_into};
@@ -39,8 +39,7 @@ impl GroupMap {
         taken: Option<Taken<'_>>,
     ) -> Result<(), NoMemory>
         ensures groups { (items : List GroupItem) → gatherings_of items ≡ gatherings_view self.old
-            → Becomes (groups_view self.old) (groups_view self.new)
-            (put_group items (put_view key.now taken.entry) (groups_view self.old)) result }
+            → PutsInto items (put_view key.now taken.entry) self.old self.new result }
         ensures gatherings { gatherings_view self.new ≡ gatherings_view self.old }
     {
         if self.is_hinted(key) {
@@ -122,10 +121,7 @@ impl GroupMap {
         taken: Option<Taken<'_>>,
     ) -> Result<(), NoMemory>
         requires { number < length (self.old).groups.items }
-        ensures groups { (items : List GroupItem) (tuple : List (Option Value))
-            → gatherings_of items ≡ gatherings_view self.old → slice_get (tuples_view self.old) number ≡ Some tuple
-            → Becomes (groups_view self.old) (groups_view self.new)
-            (put_group items (put_of tuple (option_map taken_view taken.entry)) (groups_view self.old)) result }
+        ensures groups { PutsAt number taken.entry self.old self.new result }
         ensures gatherings { gatherings_view self.new ≡ gatherings_view self.old }
         ensures tuples { tuples_view self.new ≡ tuples_view self.old }
     {
@@ -159,9 +155,9 @@ impl GroupMap {
         taken: Option<Taken<'_>>,
     ) -> Result<(), NoMemory>
         requires { number < length (self.old).groups.items }
-        ensures groups { Becomes (map group_view (self.old).groups.items) (map group_view (self.new).groups.items)
-            (taken_at (self.old).gatherings.items number (option_map taken_view taken.entry)
-            (map group_view (self.old).groups.items)) result }
+        ensures groups { Becomes (groups_in self.old) (groups_in self.new)
+            (taken_at (self.old).gatherings.items number (option_map taken_view taken.entry) (groups_in self.old))
+            result }
         ensures gatherings { (self.new).gatherings ≡ (self.old).gatherings }
     {
         let group = &mut self.groups[number];

@@ -6,7 +6,7 @@ use Rattle.dr_page.specs.declared.part.BodyParts.{BodyParts}
 use Rattle.dr_page.specs.declared.level_cursor.LevelCursor.{LevelCursor}
 use Rattle.dr_page.specs.declared.level_pairs.LevelPairs.{LevelPairs}
 use Rattle.dr_page.specs.Reads.{WhereNone}
-use Rattle.dr_page.specs.Parts.{part_in}
+use Rattle.dr_page.specs.Parts.{part_in, AreInside}
 use Rattle.dr_page.specs.RunReading.{HasRead}
 
 -- the last piece
@@ -37,3 +37,9 @@ WhereNotBoth PageFault.BadData rs ds = (rs ≡ None) ⊎ (ds ≡ None)
 abbrev pub TakesPairs : {B : Type 0} → List ℕ → BodyParts → List ℕ → List ℕ → ℕ → ℕ → ℕ → LevelPairs → Result B PageFault → Type 0
 TakesPairs bytes p rs ds n r d l (Ok u) = HavePairs bytes p (rs ++ piece_of l.repetitions) (ds ++ piece_of l.definitions) l
 TakesPairs bytes p rs ds n r d l (Err e) = WhereNotBoth e (levels r (length rs + n) (part_in bytes p.repetitions)) (levels d (length ds + n) (part_in bytes p.definitions))
+
+-- after whatever pairs came, n more come next; or a part doesn't have so many
+abbrev pub TakesNextPairs : {B : Type 0} → List ℕ → BodyParts → ℕ → LevelPairs → LevelPairs → Result B PageFault → Type 0
+TakesNextPairs bytes p n l l' result =
+    (rs ds : List ℕ) → AreInside bytes p → HavePairs bytes p rs ds l
+    → TakesPairs bytes p rs ds n l.repetitions.greatest l.definitions.greatest l' result

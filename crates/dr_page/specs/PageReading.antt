@@ -60,3 +60,8 @@ abbrev pub Gives : PageShape → List Value → List ℕ → List Triplet → �
 Gives s d bytes given n before after r (Ok m) = (more : List Triplet) × (length more ≡ n) × (after ≡ before ++ more) × IsReading s d bytes (given ++ more) r
 Gives s d bytes given n before after r (Err PageFault.BadData) = (page_triplets (front_of (length given + n) s) d bytes ≡ None) × (page_triplets s d bytes ≡ None)
 Gives s d bytes given n before after r (Err PageFault.NoMemory) = ⊤
+
+-- after whatever triplets it gave, n more join the end; or neither they nor the whole page are there
+abbrev pub GivesNext : List Value → List ℕ → ℕ → List Triplet → List Triplet → PageReader → PageReader → Result ℕ PageFault → Type 0
+GivesNext d bytes n before after r r' result =
+    (s : PageShape) (given : List Triplet) → IsReading s d bytes given r → Gives s d bytes given n before after r' result

@@ -9,15 +9,20 @@ use Rattle.dr_formats.specs.Plain.{truth_of_bit, pick}
 use Rattle.dr_formats.specs.Page.{encoded_values, rle_truths, sized_part}
 use Rattle.dr_levels.specs.declared.triplet.Levels.{Levels}
 use Rattle.dr_levels.specs.declared.text_place.TextPlace.{TextPlace}
+use Rattle.dr_levels.specs.declared.column.Column.{Column}
 use Rattle.dr_levels.specs.Dense.{joined, text_values}
+use Rattle.dr_levels.specs.Views.{column_form, column_view}
 use Rattle.dr_plain.specs.Pieces.{HasGiven}
 use Rattle.dr_page.specs.declared.encoding.ValueEncoding.{ValueEncoding}
+use Rattle.dr_page.specs.declared.dictionary.Dictionary.{Dictionary}
+use Rattle.dr_page.specs.declared.dictionary.Texts.{Texts}
 use Rattle.dr_page.specs.declared.fault.PageFault.{PageFault}
 use Rattle.dr_page.specs.declared.level_cursor.LevelCursor.{LevelCursor}
 use Rattle.dr_page.specs.declared.index_cursor.IndexCursor.{IndexCursor}
 use Rattle.dr_page.specs.declared.value_cursor.ValueCursor.{ValueCursor}
 use Rattle.dr_page.specs.Encodings.{encoding_of}
 use Rattle.dr_page.specs.Indices.{indices_ahead}
+use Rattle.dr_page.specs.Views.{dictionary_view}
 use Rattle.dr_page.specs.Reads.{WhereNone}
 use Rattle.dr_page.specs.RunReading.{HasRead}
 use Rattle.dr_page.specs.LevelPieces.{HasLevels, piece_of}
@@ -75,3 +80,20 @@ abbrev pub ExtendsBy : {B : Type 0} → ℤ → Kind → List Value → List ℕ
 ExtendsBy z k d bytes given n g pairs before after c (Ok b) =
     (more : List Value) × (length more ≡ n) × (after ≡ before ++ joined g pairs more) × HasValues z k d bytes (given ++ more) c
 ExtendsBy z k d bytes given n g pairs before after c (Err e) = WhereNone e (encoded_values z k d (length given + n) bytes)
+
+-- after whatever values came, these n come next; or there aren't so many
+abbrev pub TakesNextValues : {B : Type 0} → Kind → List Value → List ℕ → ℕ → List Value → ValueCursor → ValueCursor → Result B PageFault → Type 0
+TakesNextValues k d bytes n more c c' result =
+    (z : ℤ) (given : List Value) → HasValues z k d bytes given c → TakesValues z k d bytes given n more c' result
+
+-- after whatever texts came, n come next, whose places are those of the bytes that are answered; or there aren't so many
+abbrev pub TakesNextTexts : Texts → List ℕ → ℕ → List TextPlace → ValueCursor → ValueCursor → Result (Bor (List ℕ)) PageFault → Type 0
+TakesNextTexts ts bytes n places c c' result =
+    (z : ℤ) (given : List Value) → HasValues z text_kind (text_values ts.bytes.items ts.places.items) bytes given c
+    → TakesTexts z (text_values ts.bytes.items ts.places.items) bytes given n places c' result
+
+-- after whatever values came, the next n join the end of a column as triplets of these levels; or there aren't so many
+abbrev pub ExtendsByNext : {B : Type 0} → Kind → Dictionary → List ℕ → ℕ → List Levels → Column → Column → ValueCursor → ValueCursor → Result B PageFault → Type 0
+ExtendsByNext k d bytes n pairs before after c c' result =
+    (z : ℤ) (given : List Value) → HasValues z k (dictionary_view d) bytes given c
+    → ExtendsBy z k (dictionary_view d) bytes given n (column_form before).greatest pairs (column_view before) (column_view after) c' result

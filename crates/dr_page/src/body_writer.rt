@@ -1,10 +1,8 @@
 //! Writing page bodies.
 
 ghost use Rattle.std.specs.Prelude.{◌≡◌, ◌++◌, ◌≤◌, IfOk, OnOk, OnErr};
-ghost use Rattle.dr_formats.specs.Page.{body_bytes};
-ghost use Rattle.dr_levels.specs.Views.{triplets_view, triplets_form};
-ghost use Rattle.dr_page.specs.Views.{page_form_view};
-ghost use Rattle.dr_page.specs.Writes.{Writes, AreWritable, AreLengthsOf};
+ghost use Rattle.dr_levels.specs.Views.{triplets_form};
+ghost use Rattle.dr_page.specs.Writes.{Writes, AreWritable, AreLengthsOf, body_of};
 
 use crate::level_lengths::LevelLengths;
 use crate::level_writer::LevelWriter;
@@ -44,8 +42,7 @@ impl BodyWriter {
         requires definition { (triplets_form triplets).greatest ≤ 32 }
         requires writable { AreWritable max_repetition triplets }
         ensures written { OnOk result ((out.new).items
-            ≡ (out.old).items ++ body_bytes (page_form_view form) (triplets_form triplets.entry).kind max_repetition
-            (triplets_form triplets.entry).greatest (triplets_view triplets.entry)) }
+            ≡ (out.old).items ++ body_of form max_repetition triplets.entry) }
         ensures lengths { IfOk result (λ n. AreLengthsOf max_repetition triplets.entry n) }
         ensures stays { OnErr result ((out.new).items ≡ (out.old).items) }
     {
@@ -68,9 +65,7 @@ impl BodyWriter {
         requires repetition { max_repetition ≤ 32 }
         requires definition { (triplets_form triplets).greatest ≤ 32 }
         requires writable { AreWritable max_repetition triplets }
-        ensures written { Writes (body_bytes (page_form_view form) (triplets_form triplets.entry).kind max_repetition
-            (triplets_form triplets.entry).greatest (triplets_view triplets.entry)) (out.old).items
-            (out.new).items result }
+        ensures written { Writes (body_of form max_repetition triplets.entry) (out.old).items (out.new).items result }
         ensures lengths { IfOk result (λ n. AreLengthsOf max_repetition triplets.entry n) }
     {
         let levels = triplets.levels();

@@ -2,8 +2,8 @@
 
 ghost use Rattle.std.specs.Prelude.{◌≡◌, ◌≤◌, ℕ, List, [], length, OnOk};
 ghost use Rattle.dr_formats.specs.Page.{count_equal};
-ghost use Rattle.dr_page.specs.Parts.{AreInside, PairsOf};
-ghost use Rattle.dr_page.specs.LevelPieces.{HavePairs, TakesPairs, piece_of};
+ghost use Rattle.dr_page.specs.Parts.{PairsOf};
+ghost use Rattle.dr_page.specs.LevelPieces.{HavePairs, piece_of, TakesNextPairs};
 
 use crate::fault::PageFault;
 use crate::level_cursor::LevelCursor;
@@ -49,9 +49,7 @@ impl LevelPairs {
         bytes: &[u8],
         count: usize,
     ) -> Result<(), PageFault>
-        ensures next { (rs : List ℕ) → (ds : List ℕ) → AreInside bytes.now parts → HavePairs bytes.now parts rs ds self.old
-            → TakesPairs bytes.now parts rs ds count (self.old).repetitions.greatest (self.old).definitions.greatest
-            self.new result }
+        ensures next { TakesNextPairs bytes.now parts count self.old self.new result }
         ensures pairs { OnOk result (PairsOf (piece_of (self.new).repetitions) (piece_of (self.new).definitions)
             (self.new).pairs.items) }
         ensures count { OnOk result (length (self.new).pairs.items ≡ count) }

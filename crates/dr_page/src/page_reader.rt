@@ -31,12 +31,11 @@ impl PageReader {
     ghost use Rattle.std.specs.Prelude.{◌≡◌, ◌+◌, [], List, min, true, Some, Err, IfOk, IfErr, OnOk, OnErr};
     ghost use Rattle.dr_page.specs.declared.fault.PageFault.{PageFault};
     ghost use Rattle.dr_meaning.specs.Record.{Value};
-    ghost use Rattle.dr_meaning.specs.Column as meant;
-    ghost use Rattle.dr_formats.specs.Page.{PageShape, page_triplets};
+    ghost use Rattle.dr_formats.specs.Page.{page_triplets};
     ghost use Rattle.dr_levels.specs.Views.{column_view, column_form};
     ghost use Rattle.dr_page.specs.Views.{shape_view, shape_form, dictionary_view, is_dictionary_of};
     ghost use Rattle.dr_page.specs.Reads.{WhereNone};
-    ghost use Rattle.dr_page.specs.PageReading.{front_of, left_of, reader_form, refused_of, IsReading, Lengthens, Gives};
+    ghost use Rattle.dr_page.specs.PageReading.{front_of, left_of, reader_form, refused_of, IsReading, Lengthens, GivesNext};
 
     /// A reader without a page. Takes no memory.
     pub fn new(alloc: Global) -> PageReader
@@ -105,10 +104,8 @@ impl PageReader {
     ) -> Result<usize, PageFault>
         requires form { column_form out.old ≡ reader_form self.old }
         requires dictionary { is_dictionary_of (reader_form self.old).kind dictionary.now ≡ true }
-        ensures gives { (s : PageShape) → (given : List meant.Triplet)
-            → IsReading s (dictionary_view dictionary.now) bytes.now given self.old
-            → Gives s (dictionary_view dictionary.now) bytes.now given (min most (left_of self.old))
-            (column_view out.old) (column_view out.new) self.new result }
+        ensures gives { GivesNext (dictionary_view dictionary.now) bytes.now (min most (left_of self.old))
+            (column_view out.old) (column_view out.new) self.old self.new result }
         ensures count { IfOk result (λ n. n ≡ min most (left_of self.old)) }
         ensures left { IfOk result (λ n. n + left_of self.new ≡ left_of self.old) }
         ensures longer { IfOk result (λ n. Lengthens (column_view out.old) (column_view out.new) n) }
@@ -140,10 +137,8 @@ impl PageReader {
     ) -> Result<usize, PageFault>
         requires form { column_form out.old ≡ reader_form self.old }
         requires dictionary { is_dictionary_of (reader_form self.old).kind dictionary.now ≡ true }
-        ensures gives { (s : PageShape) → (given : List meant.Triplet)
-            → IsReading s (dictionary_view dictionary.now) bytes.now given self.old
-            → Gives s (dictionary_view dictionary.now) bytes.now given (min most (left_of self.old))
-            (column_view out.old) (column_view out.new) self.new result }
+        ensures gives { GivesNext (dictionary_view dictionary.now) bytes.now (min most (left_of self.old))
+            (column_view out.old) (column_view out.new) self.old self.new result }
         ensures count { IfOk result (λ n. n ≡ min most (left_of self.old)) }
         ensures left { IfOk result (λ n. n + left_of self.new ≡ left_of self.old) }
         ensures longer { IfOk result (λ n. Lengthens (column_view out.old) (column_view out.new) n) }

@@ -37,13 +37,13 @@ impl ValueCursor {
     ghost use Rattle.dr_meaning.specs.Schema as tree;
     ghost use Rattle.dr_meaning.specs.Record.{Value, bool_value, int_value};
     ghost use Rattle.dr_nested.specs.Views.{kind_view};
-    ghost use Rattle.dr_levels.specs.Dense.{text_values, is_integer_kind, present};
+    ghost use Rattle.dr_levels.specs.Dense.{is_integer_kind, present};
     ghost use Rattle.dr_levels.specs.Texts.{is_text};
     ghost use Rattle.dr_levels.specs.Views.{column_view, column_form};
     ghost use Rattle.dr_page.specs.Encodings.{IsFor};
-    ghost use Rattle.dr_page.specs.Views.{dictionary_view, is_dictionary_of};
+    ghost use Rattle.dr_page.specs.Views.{is_dictionary_of};
     ghost use Rattle.dr_page.specs.PageReading.{Lengthens};
-    ghost use Rattle.dr_page.specs.ValuePieces.{HasValues, TakesValues, TakesTexts, ExtendsBy};
+    ghost use Rattle.dr_page.specs.ValuePieces.{HasValues, TakesNextValues, TakesNextTexts, ExtendsByNext};
 
     /// A cursor over nothing. Takes no memory.
     pub(crate) fn new(alloc: Global) -> ValueCursor {
@@ -61,7 +61,8 @@ impl ValueCursor {
 
     /// Begins values of this encoding; hybrid data has truth values alone.
     pub(crate) fn begin(&mut self, encoding: ValueEncoding, bytes: &[u8])
-        ensures { (z : ℤ) → (k : tree.Kind) → (d : List Value) → IsFor encoding k z → HasValues z k d bytes.now [] self.new }
+        ensures { (z : ℤ) (k : tree.Kind) (d : List Value) → IsFor encoding k z
+            → HasValues z k d bytes.now [] self.new }
     {
         self.encoding = encoding;
         self.plain = PlainReader::new();
@@ -82,10 +83,8 @@ impl ValueCursor {
         requires kind { (column_form out.old).kind ≡ kind_view kind }
         requires dictionary { is_dictionary_of (kind_view kind) dictionary.now ≡ true }
         requires as_many { present (column_form out.old).greatest pairs.now ≡ count }
-        ensures next { (z : ℤ) → (given : List Value)
-            → HasValues z (kind_view kind) (dictionary_view dictionary.now) bytes.now given self.old
-            → ExtendsBy z (kind_view kind) (dictionary_view dictionary.now) bytes.now given count
-            (column_form out.old).greatest pairs.now (column_view out.old) (column_view out.new) self.new result }
+        ensures next { ExtendsByNext (kind_view kind) dictionary.now bytes.now count pairs.now out.old out.new
+            self.old self.new result }
         ensures longer { OnOk result (Lengthens (column_view out.old) (column_view out.new) (length pairs.now)) }
         ensures stays { OnErr result (column_view out.new ≡ column_view out.old) }
         ensures form { column_form out.new ≡ column_form out.old }
@@ -111,10 +110,8 @@ impl ValueCursor {
         requires kind { (column_form out.old).kind ≡ tree.bool_kind }
         requires dictionary { is_dictionary_of tree.bool_kind dictionary.now ≡ true }
         requires as_many { present (column_form out.old).greatest pairs.now ≡ count }
-        ensures next { (z : ℤ) → (given : List Value)
-            → HasValues z tree.bool_kind (dictionary_view dictionary.now) bytes.now given self.old
-            → ExtendsBy z tree.bool_kind (dictionary_view dictionary.now) bytes.now given count
-            (column_form out.old).greatest pairs.now (column_view out.old) (column_view out.new) self.new result }
+        ensures next { ExtendsByNext tree.bool_kind dictionary.now bytes.now count pairs.now out.old out.new
+            self.old self.new result }
         ensures longer { OnOk result (Lengthens (column_view out.old) (column_view out.new) (length pairs.now)) }
         ensures stays { OnErr result (column_view out.new ≡ column_view out.old) }
         ensures form { column_form out.new ≡ column_form out.old }
@@ -137,10 +134,8 @@ impl ValueCursor {
         requires kind { (column_form out.old).kind ≡ kind_view kind }
         requires dictionary { is_dictionary_of (kind_view kind) dictionary.now ≡ true }
         requires as_many { present (column_form out.old).greatest pairs.now ≡ count }
-        ensures next { (z : ℤ) → (given : List Value)
-            → HasValues z (kind_view kind) (dictionary_view dictionary.now) bytes.now given self.old
-            → ExtendsBy z (kind_view kind) (dictionary_view dictionary.now) bytes.now given count
-            (column_form out.old).greatest pairs.now (column_view out.old) (column_view out.new) self.new result }
+        ensures next { ExtendsByNext (kind_view kind) dictionary.now bytes.now count pairs.now out.old out.new
+            self.old self.new result }
         ensures longer { OnOk result (Lengthens (column_view out.old) (column_view out.new) (length pairs.now)) }
         ensures stays { OnErr result (column_view out.new ≡ column_view out.old) }
         ensures form { column_form out.new ≡ column_form out.old }
@@ -161,10 +156,8 @@ impl ValueCursor {
         requires kind { (column_form out.old).kind ≡ tree.text_kind }
         requires dictionary { is_dictionary_of tree.text_kind dictionary.now ≡ true }
         requires as_many { present (column_form out.old).greatest pairs.now ≡ count }
-        ensures next { (z : ℤ) → (given : List Value)
-            → HasValues z tree.text_kind (dictionary_view dictionary.now) bytes.now given self.old
-            → ExtendsBy z tree.text_kind (dictionary_view dictionary.now) bytes.now given count
-            (column_form out.old).greatest pairs.now (column_view out.old) (column_view out.new) self.new result }
+        ensures next { ExtendsByNext tree.text_kind dictionary.now bytes.now count pairs.now out.old out.new
+            self.old self.new result }
         ensures longer { OnOk result (Lengthens (column_view out.old) (column_view out.new) (length pairs.now)) }
         ensures stays { OnErr result (column_view out.new ≡ column_view out.old) }
         ensures form { column_form out.new ≡ column_form out.old }
@@ -180,10 +173,8 @@ impl ValueCursor {
         bytes: &[u8],
         count: usize,
     ) -> Result<(), PageFault>
-        ensures next { (z : ℤ) → (given : List Value)
-            → HasValues z tree.bool_kind (map bool_value dictionary.now) bytes.now given self.old
-            → TakesValues z tree.bool_kind (map bool_value dictionary.now) bytes.now given count
-            (map bool_value (self.new).bools.items) self.new result }
+        ensures next { TakesNextValues tree.bool_kind (map bool_value dictionary.now) bytes.now count
+            (map bool_value (self.new).bools.items) self.old self.new result }
         ensures count { OnOk result (length (self.new).bools.items ≡ count) }
     {
         match self.encoding {
@@ -213,10 +204,8 @@ impl ValueCursor {
         count: usize,
     ) -> Result<(), PageFault>
         requires { is_integer_kind (kind_view kind) ≡ true }
-        ensures next { (z : ℤ) → (given : List Value)
-            → HasValues z (kind_view kind) (map int_value dictionary.now) bytes.now given self.old
-            → TakesValues z (kind_view kind) (map int_value dictionary.now) bytes.now given count
-            (map int_value (self.new).integers.items) self.new result }
+        ensures next { TakesNextValues (kind_view kind) (map int_value dictionary.now) bytes.now count
+            (map int_value (self.new).integers.items) self.old self.new result }
         ensures count { OnOk result (length (self.new).integers.items ≡ count) }
     {
         match self.encoding {
@@ -245,10 +234,7 @@ impl ValueCursor {
         bytes: &'a [u8],
         count: usize,
     ) -> Result<&'a [u8], PageFault>
-        ensures next { (z : ℤ) → (given : List Value) → HasValues z tree.text_kind
-            (text_values (dictionary.now).bytes.items (dictionary.now).places.items) bytes.now given self.old
-            → TakesTexts z (text_values (dictionary.now).bytes.items (dictionary.now).places.items) bytes.now given
-            count (self.new).places.items self.new result }
+        ensures next { TakesNextTexts dictionary.now bytes.now count (self.new).places.items self.old self.new result }
         ensures count { OnOk result (length (self.new).places.items ≡ count) }
         ensures texts { IfOk result (λ b. list_all (is_text b.now) (self.new).places.items ≡ true) }
     {
@@ -271,7 +257,8 @@ impl ValueCursor {
 /// Puts the next bits into the place of the last piece, as many as are wanted: hybrid data behind its length, as levels
 /// of which 1 is the greatest. As long as none is wanted no byte is needed.
 fn next_bits(bits: &mut LevelCursor, bytes: &[u8], count: usize) -> Result<(), PageFault>
-    ensures next { (given : List ℕ) → HasBits bytes.now given bits.old → TakesBits bytes.now given count bits.new result }
+    ensures next { (given : List ℕ) → HasBits bytes.now given bits.old
+        → TakesBits bytes.now given count bits.new result }
     ensures count { OnOk result (length (piece_of bits.new) ≡ count) }
 {
     if count == 0 {

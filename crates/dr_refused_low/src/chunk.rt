@@ -1,15 +1,13 @@
 //! Column chunks.
 
-ghost use Rattle.std.specs.Prelude.{◌≡◌, ◌≤◌, ◌<◌, ◌+◌, ◌∷◌, [], ℕ, List, length, Some, None, Ok, Err, IfOk, OnOk, OnErr};
-ghost use Rattle.dr_meaning.specs.Path.{Leaf};
-ghost use Rattle.dr_meaning.specs.Column.{Triplet};
+ghost use Rattle.std.specs.Prelude.{◌≡◌, ◌≤◌, ◌<◌, ◌+◌, ◌∷◌, [], Some, None, Ok, Err, IfOk, OnOk, OnErr};
 ghost use Rattle.dr_formats.specs.Chunk.{pages_triplets};
 ghost use Rattle.dr_levels.specs.Views.{column_view, column_form};
 ghost use Rattle.dr_page.specs.PageReading.{Lengthens};
-ghost use Rattle.dr_outside.specs.Telling.{Tells, AsksOnly};
+ghost use Rattle.dr_outside.specs.Telling.{AsksOnly};
 ghost use Rattle.dr_outside.specs.Leaving.{LeavesLink, ServesUntil};
 ghost use Rattle.dr_chunk.specs.Ranges.{is_read_inside, inside};
-ghost use Rattle.dr_chunk.specs.Taking.{range_of, left_of, reader_form, chunk_of, refused_of, fault_of, IsTaking, TakesMore};
+ghost use Rattle.dr_chunk.specs.Taking.{range_of, left_of, reader_form, chunk_of, refused_of, fault_of, TakesMore, OverTold};
 ghost use Rattle.dr_chunk.specs.declared.fault.ChunkFault.{ChunkFault};
 
 use dr_chunk::{ChunkFault, ChunkReader};
@@ -28,12 +26,11 @@ pub fn next_of_chunk<L: Link>(
 ) -> Result<usize, ChunkFault>
     requires form { column_form out.old ≡ reader_form reader.old }
     requires some { 0 < most }
-    ensures takes { (l : Leaf) (wanted : ℕ) (bytes : List ℕ) (given : List Triplet)
-        → IsTaking l wanted bytes given reader.old → Tells (L.shows link.old) path.now bytes
-        → OnOk result (TakesMore l wanted bytes given (column_view out.old) (column_view out.new) reader.new) }
-    ensures bad { (l : Leaf) (wanted : ℕ) (bytes : List ℕ) (given : List Triplet)
-        → IsTaking l wanted bytes given reader.old → Tells (L.shows link.old) path.now bytes → result
-        ≡ Err ChunkFault.BadData → pages_triplets l wanted (chunk_of bytes (range_of reader.old)) ≡ None }
+    ensures takes { OverTold (L.shows link.old) path.now reader.old (λ l wanted bytes given.
+        OnOk result (TakesMore l wanted bytes given (column_view out.old) (column_view out.new) reader.new)) }
+    ensures bad { OverTold (L.shows link.old) path.now reader.old (λ l wanted bytes given.
+        result ≡ Err ChunkFault.BadData
+        → pages_triplets l wanted (chunk_of bytes (range_of reader.old)) ≡ None) }
     ensures longer { IfOk result (λ n. Lengthens (column_view out.old) (column_view out.new) n) }
     ensures left { IfOk result (λ n. n + left_of reader.new ≡ left_of reader.old) }
     ensures most { IfOk result (λ n. n ≤ most) }
@@ -48,6 +45,7 @@ pub fn next_of_chunk<L: Link>(
         ((range_of reader.old).start + (range_of reader.old).size)) (L.shows link.old) (L.shows link.new) }
     ensures asked { AsksOnly (is_read_inside path.now (inside (range_of reader.old) ∷ [])) (L.shows link.old).asked
         (L.shows link.new).asked }
+    // A refusal is one from then on.
     ensures refused { refused_of reader.new ≡ fault_of result }
     ensures again { (e : ChunkFault) → refused_of reader.old ≡ Some e → (result ≡ Err e)
         × (L.shows link.new ≡ L.shows link.old) }

@@ -1,11 +1,9 @@
 //! Bodies of data pages.
 
-ghost use Rattle.std.specs.Prelude.{◌≡◌, ◌+◌, List, min, true, Some, Err, IfOk, OnErr};
-ghost use Rattle.dr_meaning.specs.Column as meant;
-ghost use Rattle.dr_formats.specs.Page.{PageShape};
+ghost use Rattle.std.specs.Prelude.{◌≡◌, ◌+◌, min, true, Some, Err, IfOk, OnErr};
 ghost use Rattle.dr_levels.specs.Views.{column_view, column_form};
 ghost use Rattle.dr_page.specs.Views.{dictionary_view, is_dictionary_of};
-ghost use Rattle.dr_page.specs.PageReading.{left_of, refused_of, reader_form, IsReading, Lengthens, Gives};
+ghost use Rattle.dr_page.specs.PageReading.{left_of, refused_of, reader_form, Lengthens, GivesNext};
 
 use dr_levels::Column;
 use dr_page::{Dictionary, PageFault, PageReader};
@@ -20,10 +18,8 @@ pub fn next_of_page(
 ) -> Result<usize, PageFault>
     requires form { column_form out.old ≡ reader_form reader.old }
     requires dictionary { is_dictionary_of (reader_form reader.old).kind dictionary.now ≡ true }
-    ensures gives { (s : PageShape) → (given : List meant.Triplet)
-        → IsReading s (dictionary_view dictionary.now) bytes.now given reader.old
-        → Gives s (dictionary_view dictionary.now) bytes.now given (min most (left_of reader.old))
-        (column_view out.old) (column_view out.new) reader.new result }
+    ensures gives { GivesNext (dictionary_view dictionary.now) bytes.now (min most (left_of reader.old))
+        (column_view out.old) (column_view out.new) reader.old reader.new result }
     ensures count { IfOk result (λ n. n ≡ min most (left_of reader.old)) }
     ensures left { IfOk result (λ n. n + left_of reader.new ≡ left_of reader.old) }
     ensures longer { IfOk result (λ n. Lengthens (column_view out.old) (column_view out.new) n) }

@@ -1,9 +1,14 @@
 -- Pruning a record by the answers of a test: one for each row of a chain, in order.
-use Rattle.std.specs.Prelude.{List, [], ◌∷◌, drop, Bool, false, if◌then◌else◌, Option, Some, None, option_map}
+use Rattle.std.specs.Prelude.{List, [], ◌∷◌, drop, Bool, false, if◌then◌else◌, Option, Some, None, option_map, ◌≡◌, map}
 use Rattle.dr_meaning.specs.Path.{Step}
 use Rattle.dr_meaning.specs.Record.{Node, Instances, no_instances, instance, Instance, atom, inner, instances_at, put_at}
+use Rattle.dr_meaning.specs.Rows.{rows}
 use Rattle.dr_meaning.specs.Kept.{with_kept}
 use Rattle.dr_meaning.specs.Lists.{first_answer}
+use Rattle.dr_nested.specs.PathView.{step_view}
+use Rattle.dr_nested.specs.Views.{node_view}
+use Rattle.dr_nested.specs.declared.path.Step.{Step as CodeStep}
+use Rattle.dr_nested.specs.declared.record.Node.{Node as CodeNode}
 
 -- what is kept, and the answers behind those for it
 pub record Pruned (A : Type 0) : Type 0 where
@@ -60,3 +65,11 @@ slot_instances (Some xs) = xs
 abbrev pub slot_with : Option Instances → Instances → Option Instances
 slot_with None xs = None
 slot_with (Some ys) xs = Some xs
+
+-- what is kept of a field's instances along the rest of a chain, and the answers behind those for it
+abbrev pub field_pruned : List CodeStep → Instances → List Bool → Pruned (Option Instances)
+field_pruned chain xs bs = pruned_field (pruned_instance (pruned_along (map step_view chain))) xs bs
+
+-- these are the answers of a test for the rows of a chain, in order
+abbrev pub AreAnswersOf : (Node → Bool) → List CodeStep → CodeNode → List Bool → Type 0
+AreAnswersOf test chain n bs = bs ≡ map test (rows (map step_view chain) (node_view n))

@@ -1,9 +1,15 @@
 -- How the rows of a chain are gone through: instance by instance, with the values of the leaves in the row at hand.
-use Rattle.std.specs.Prelude.{◌≡◌, List, [], ◌∷◌, ◌++◌, ◌==◌, if◌then◌else◌, Option, Some, None}
+use Rattle.std.specs.Prelude.{◌≡◌, List, [], ◌∷◌, ◌++◌, ◌==◌, if◌then◌else◌, Option, Some, None, ℕ, map, take, drop, option_map}
 use Rattle.dr_meaning.specs.Path.{Step}
 use Rattle.dr_meaning.specs.Record.{Value, Instances, no_instances, instance, Instance, instances_in}
 use Rattle.dr_meaning.specs.Rows.{value_in}
 use Rattle.dr_rows.specs.Known.{Known}
+use Rattle.dr_rows.specs.Views.{lent_instance, lent_cells}
+use Rattle.dr_rows.specs.declared.instance_ref.InstanceRef.{InstanceRef}
+use Rattle.dr_nested.specs.PathView.{step_view, paths_view}
+use Rattle.dr_nested.specs.declared.path.Path.{Path}
+use Rattle.dr_nested.specs.declared.path.Step.{Step as CodeStep}
+use Rattle.dr_levels.specs.declared.triplet.ValueRef.{ValueRef}
 
 -- what a path has behind another one that it begins with
 abbrev pub behind : List Step → List Step → Option (List Step)
@@ -45,3 +51,10 @@ rows_from_end leaves q p vs (Some x) = rows_below leaves q p x vs
 -- values that differ only at the leaves below the end of a path
 abbrev pub Keeps : List (List Step) → List Step → List (Option Value) → List (Option Value) → Type 0
 Keeps leaves q vs us = (x : Instance) → filled q x leaves us ≡ filled q x leaves vs
+
+-- the rows of a chain below an instance at the end of its first so many steps, where the leaves have these values, and where it may be absent
+abbrev pub rows_under : List Path → List CodeStep → ℕ → List (Option ValueRef) → InstanceRef → List Known
+rows_under leaves chain depth vs x = rows_below (paths_view leaves) (map step_view (take depth chain)) (map step_view (drop depth chain)) (lent_instance x) (lent_cells vs)
+
+abbrev pub rows_under_end : List Path → List CodeStep → ℕ → List (Option ValueRef) → Option InstanceRef → List Known
+rows_under_end leaves chain depth vs o = rows_from_end (paths_view leaves) (map step_view (take depth chain)) (map step_view (drop depth chain)) (lent_cells vs) (option_map lent_instance o)

@@ -1,12 +1,9 @@
 //! The rows of a record.
 
-ghost use Rattle.std.specs.Prelude.{◌≡◌, ◌≤◌, length, map, take, true, IfOk};
-ghost use Rattle.dr_meaning.specs.Record as record_tree;
-ghost use Rattle.dr_meaning.specs.Rows as rows_meaning;
+ghost use Rattle.std.specs.Prelude.{◌≡◌, ◌≤◌, length, map, take, IfOk};
 ghost use Rattle.dr_nested.specs.Views.{node_view};
-ghost use Rattle.dr_nested.specs.PathView.{step_view, paths_view};
-ghost use Rattle.dr_rows.specs.Known.{known, is_cut};
-ghost use Rattle.dr_rows.specs.Views.{row_view, rows_view, rows_width};
+ghost use Rattle.dr_nested.specs.PathView.{step_view};
+ghost use Rattle.dr_rows.specs.Views.{rows_width, AreRowsOf, OverCut};
 
 use crate::instance_ref::InstanceRef;
 use crate::row::Row;
@@ -26,9 +23,7 @@ pub fn rows_of<'n>(
     whole: &'n Node,
 ) -> Result<Rows<'n>, NoMemory>
     ensures width { IfOk result (λ t. rows_width t ≡ length leaves.now) }
-    ensures rows { IfOk result (λ t. rows_view t
-        ≡ map (known (paths_view leaves.now) (map step_view chain.now))
-        (rows_meaning.rows (map step_view chain.now) (node_view whole.now))) }
+    ensures rows { IfOk result (AreRowsOf leaves.now (map step_view chain.now) (node_view whole.now)) }
 {
     let mut values = Vec::new(alloc);
     values.resize(leaves.len(), None)?;
@@ -58,11 +53,8 @@ pub fn rows_within<'n>(
     requires depth { depth ≤ length chain.now }
     requires values { length row.values.now ≡ length leaves.now }
     ensures width { IfOk result (λ t. rows_width t ≡ length leaves.now) }
-    ensures rows { IfOk result (λ t. (whole : record_tree.Node) → is_cut (map step_view (take depth chain.now)) whole
-        ≡ true
-        → row_view row.entry ≡ known (paths_view leaves.now) (map step_view (take depth chain.now)) whole
-        → rows_view t ≡ map (known (paths_view leaves.now)
-        (map step_view chain.now)) (rows_meaning.rows (map step_view chain.now) whole)) }
+    ensures rows { IfOk result (λ t. OverCut leaves.now (map step_view (take depth chain.now)) row.entry (λ whole.
+        AreRowsOf leaves.now (map step_view chain.now) whole t)) }
 {
     let mut values = Vec::from_slice(alloc, row.values)?;
     let mut rows = Rows::new(alloc, leaves.len());

@@ -4,10 +4,9 @@ ghost use Rattle.std.specs.Prelude.{◌≡◌, Bool, map, option_map};
 ghost use Rattle.dr_meaning.specs.Kept.{kept_along};
 ghost use Rattle.dr_meaning.specs.Record as record_tree;
 ghost use Rattle.dr_meaning.specs.Record.{instances_at, put_at};
-ghost use Rattle.dr_meaning.specs.Rows.{rows};
 ghost use Rattle.dr_nested.specs.Views.{instance_view, instances_view, slot_view, node_view};
 ghost use Rattle.dr_nested.specs.PathView.{step_view};
-ghost use Rattle.dr_rows.specs.Pruning.{kept_if, pruned_along, pruned_each, pruned_field, pruned_instance, slot_instances, slot_with};
+ghost use Rattle.dr_rows.specs.Pruning.{kept_if, pruned_along, pruned_each, pruned_instance, slot_instances, slot_with, field_pruned, AreAnswersOf};
 
 use crate::answers::Answers;
 use crate::settling::settle;
@@ -30,12 +29,10 @@ fn prune_node(node: &mut Node, chain: &[Step], answers: &mut Answers<'_>) -> boo
 /// Whether a node is kept along a chain below the field at a place.
 #[cycle(pruning)]
 fn prune_field(node: &mut Node, place: usize, chain: &[Step], answers: &mut Answers<'_>) -> bool
-    ensures kept { kept_if result (node_view node.new)
-        ≡ option_map (λ xs. put_at place xs (node_view node.old)) (pruned_field
-        (pruned_instance (pruned_along (map step_view chain.now))) (instances_at place (node_view node.old))
-        (answers.old).rest.now).kept }
-    ensures left { (answers.new).rest.now ≡ (pruned_field (pruned_instance (pruned_along (map step_view chain.now)))
-        (instances_at place (node_view node.old)) (answers.old).rest.now).left }
+    ensures kept { kept_if result (node_view node.new) ≡ option_map (λ xs. put_at place xs (node_view node.old))
+        (field_pruned chain.now (instances_at place (node_view node.old)) (answers.old).rest.now).kept }
+    ensures left { (answers.new).rest.now
+        ≡ (field_pruned chain.now (instances_at place (node_view node.old)) (answers.old).rest.now).left }
 {
     match node.slots.get_mut(place) {
         Some(slot) => prune_slot(slot, chain, answers),
@@ -45,12 +42,10 @@ fn prune_field(node: &mut Node, place: usize, chain: &[Step], answers: &mut Answ
 
 #[cycle(pruning)]
 fn prune_slot(slot: &mut Slot, chain: &[Step], answers: &mut Answers<'_>) -> bool
-    ensures kept { kept_if result (slot_view slot.new)
-        ≡ option_map (slot_with (slot_view slot.old)) (pruned_field
-        (pruned_instance (pruned_along (map step_view chain.now))) (slot_instances (slot_view slot.old))
-        (answers.old).rest.now).kept }
-    ensures left { (answers.new).rest.now ≡ (pruned_field (pruned_instance (pruned_along (map step_view chain.now)))
-        (slot_instances (slot_view slot.old)) (answers.old).rest.now).left }
+    ensures kept { kept_if result (slot_view slot.new) ≡ option_map (slot_with (slot_view slot.old))
+        (field_pruned chain.now (slot_instances (slot_view slot.old)) (answers.old).rest.now).kept }
+    ensures left { (answers.new).rest.now
+        ≡ (field_pruned chain.now (slot_instances (slot_view slot.old)) (answers.old).rest.now).left }
 {
     match slot {
         Slot::Gap => answers.next(),
@@ -62,10 +57,9 @@ fn prune_slot(slot: &mut Slot, chain: &[Step], answers: &mut Answers<'_>) -> boo
 #[cycle(pruning)]
 fn prune_held(instances: &mut Vec<Instance>, chain: &[Step], answers: &mut Answers<'_>) -> bool
     ensures kept { kept_if result (instances_view (instances.new).items)
-        ≡ (pruned_field (pruned_instance (pruned_along (map step_view chain.now)))
-        (instances_view (instances.old).items) (answers.old).rest.now).kept }
-    ensures left { (answers.new).rest.now ≡ (pruned_field (pruned_instance (pruned_along (map step_view chain.now)))
-        (instances_view (instances.old).items) (answers.old).rest.now).left }
+        ≡ (field_pruned chain.now (instances_view (instances.old).items) (answers.old).rest.now).kept }
+    ensures left { (answers.new).rest.now
+        ≡ (field_pruned chain.now (instances_view (instances.old).items) (answers.old).rest.now).left }
 {
     if instances.is_empty() {
         return answers.next();
@@ -108,8 +102,7 @@ fn prune_instance(instance: &mut Instance, chain: &[Step], answers: &mut Answers
 /// What a test of a chain's rows leaves of a record: the branches with a row that passes. The answers are the test's of
 /// the record's rows, in order. Tells whether anything is left; where nothing is, the record isn't used any more.
 pub fn prune(whole: &mut Node, chain: &[Step], answers: &[bool]) -> bool
-    ensures { (test : record_tree.Node → Bool) → answers.now
-        ≡ map test (rows (map step_view chain.now) (node_view whole.old))
+    ensures { (test : record_tree.Node → Bool) → AreAnswersOf test chain.now whole.old answers.now
         → kept_if result (node_view whole.new) ≡ kept_along (map step_view chain.now) test (node_view whole.old) }
 {
     let mut answers = Answers { rest: answers };

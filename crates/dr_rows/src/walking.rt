@@ -1,9 +1,9 @@
 //! Going through the rows of a chain.
 
-ghost use Rattle.std.specs.Prelude.{◌≡◌, ◌≤◌, ◌<◌, ◌+◌, ◌++◌, ◌∷◌, [], length, map, take, drop, option_map, OnOk};
+ghost use Rattle.std.specs.Prelude.{◌≡◌, ◌≤◌, ◌<◌, ◌+◌, ◌++◌, ◌∷◌, [], length, map, take, drop, OnOk};
 ghost use Rattle.dr_nested.specs.PathView.{step_view, paths_view};
-ghost use Rattle.dr_rows.specs.Views.{lent_instance, lent_cells, rows_view, rows_width};
-ghost use Rattle.dr_rows.specs.Walking.{rows_below, rows_from_end, Keeps};
+ghost use Rattle.dr_rows.specs.Views.{lent_cells, rows_width, RowsJoin};
+ghost use Rattle.dr_rows.specs.Walking.{Keeps, rows_under, rows_under_end};
 
 use crate::instance_ref::InstanceRef;
 use crate::looking::fill;
@@ -37,9 +37,8 @@ pub fn walk<'n>(
     requires depth { depth ≤ length chain.now }
     requires values { length values.old ≡ length leaves.now }
     requires width { rows_width rows.old ≡ length leaves.now }
-    ensures rows { OnOk result (rows_view rows.new ≡ rows_view rows.old ++ rows_below (paths_view leaves.now)
-        (map step_view (take depth chain.now)) (map step_view
-        (drop depth chain.now)) (lent_instance instance.entry) (lent_cells values.old)) }
+    ensures rows { OnOk result (RowsJoin (rows_under leaves.now chain.now depth values.old instance.entry) rows.old
+        rows.new) }
     ensures others { OnOk result (Keeps (paths_view leaves.now) (map step_view (take depth chain.now))
         (lent_cells values.old) (lent_cells values.new)) }
     ensures width { rows_width rows.new ≡ rows_width rows.old }
@@ -80,9 +79,8 @@ pub fn walk_from_end<'n>(
     requires values { length values.old ≡ length leaves.now }
     requires width { rows_width rows.old ≡ length leaves.now }
     ensures width { rows_width rows.new ≡ rows_width rows.old }
-    ensures rows { OnOk result (rows_view rows.new ≡ rows_view rows.old ++ rows_from_end (paths_view leaves.now)
-        (map step_view (take depth chain.now)) (map step_view
-        (drop depth chain.now)) (lent_cells values.old) (option_map lent_instance end.entry)) }
+    ensures rows { OnOk result (RowsJoin (rows_under_end leaves.now chain.now depth values.old end.entry) rows.old
+        rows.new) }
 {
     match end {
         Some(instance) => walk(leaves, chain, depth, instance, values, rows),

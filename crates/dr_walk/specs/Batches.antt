@@ -67,3 +67,8 @@ NestsOver fs L ms r = ⊤
 abbrev pub OverBatches : LevelWalk → Left → List Bool → (Fields → List (List Step) → List (List Triplet) → ℕ → List Move → Left → Type 0) → Type 0
 OverBatches w here ended says = (fs : Fields) (F : List (List Step)) (C : List (List Triplet)) (rows : ℕ) (ms : List Move) (later : Left) → list_all (is_leaf_path fs) F ≡ true
     → all_differ F ≡ true → EndsWith ended later → IsOver fs F C rows ms w here later → says fs F C rows ms later
+
+-- what is said of a call to which this comes of the leaf that is wanted, over any columns over which the walk stood
+abbrev pub OverComing : LevelWalk → Left → Option Levels → (Fields → List (List Step) → List (List Triplet) → ℕ → List Move → Left → Type 0) → Type 0
+OverComing w here more says = (fs : Fields) (F : List (List Step)) (C : List (List Triplet)) (rows : ℕ) (ms : List Move) (later : Left) → list_all (is_leaf_path fs) F ≡ true
+    → all_differ F ≡ true → IsOver fs F C rows ms w here later → ComesOf w.wanted here later more → says fs F C rows ms later

@@ -1,11 +1,12 @@
 -- A walk over columns by their levels: where it stands, and what its calls promise.
-use Rattle.std.specs.Prelude.{◌≡◌, ◌≢◌, ◌⊎◌, ℕ, zero, suc, ◌+◌, ◌-◌, ◌^◌, ◌<◌, ◌≤◌, min, ⊤, List, [], ◌∷◌, ◌++◌, map, length, Bool, true, false, not, ◌&&◌, ◌==◌, nat_lt, if◌then◌else◌, Option, Some, None, option_map, Result, Ok, Err}
+use Rattle.std.specs.Prelude.{◌≡◌, ◌≢◌, ◌⊎◌, ℕ, zero, suc, ◌+◌, ◌-◌, ◌^◌, ◌<◌, ◌≤◌, min, ⊤, List, [], ◌∷◌, ◌++◌, map, length, Bool, true, false, not, ◌&&◌, ◌==◌, nat_lt, if◌then◌else◌, Option, Some, None, option_map, Result, Ok, Err, is_some}
 use Rattle.std.specs.List.{list_all}
 use Rattle.dr_meaning.specs.Schema.{Fields, Kind, depth, greatest_depth}
-use Rattle.dr_meaning.specs.Path.{Step}
+use Rattle.dr_meaning.specs.Path.{Step, Leaf, is_leaf_path}
 use Rattle.dr_meaning.specs.Record as record_tree
 use Rattle.dr_meaning.specs.Column.{Triplet, column}
-use Rattle.dr_meaning.specs.Walk.{Move, enter, value, leave}
+use Rattle.dr_meaning.specs.Walk.{Move, enter, value, leave, walk, no_record}
+use Rattle.dr_meaning.specs.WalkLaws.{AreLeavesOf, open_after_moves}
 use Rattle.dr_nested.specs.Views.{kind_view}
 use Rattle.dr_levels.specs.Views.{levels_pair, triplet_levels}
 use Rattle.dr_levels.specs.declared.moves.Move.{Move as CodeMove}
@@ -28,6 +29,26 @@ HasColumns fs F C rows R = (list_all (record_tree.is_record fs) R ≡ true) × (
 -- there are no such records
 abbrev pub NoneHas : Fields → List (List Step) → List (List Triplet) → ℕ → Type 0
 NoneHas fs F C rows = (R : List record_tree.Node) → HasColumns fs F C rows R → ⊥
+
+-- what is said of all records that have the columns, at leaves of the schema
+abbrev pub OverRecords : Fields → List (List Step) → ℕ → List (List Triplet) → (List record_tree.Node → Type 0) → Type 0
+OverRecords fs F rows C says = (R : List record_tree.Node) → list_all (is_leaf_path fs) F ≡ true → HasColumns fs F C rows R → says R
+
+-- what is said of the schema's leaves at these paths
+abbrev pub OverLeaves : Fields → List (List Step) → (List Leaf → Type 0) → Type 0
+OverLeaves fs F says = (L : List Leaf) → map (λ (l : Leaf). l.path) L ≡ F → AreLeavesOf fs L → says L
+
+-- the walk of the records begins with these moves
+abbrev pub WalkBegins : Fields → List (List Step) → List record_tree.Node → List Move → Type 0
+WalkBegins fs F R ms = (rest : List Move) × (walk fs F R ≡ ms ++ rest)
+
+-- these are all moves of some records that have the columns
+abbrev pub IsWholeWalk : Fields → List (List Step) → ℕ → List (List Triplet) → List Move → Type 0
+IsWholeWalk fs F rows C ms = (R : List record_tree.Node) × HasColumns fs F C rows R × (walk fs F R ≡ ms)
+
+-- each of these moves nests on those before it
+abbrev pub Nest : Fields → List Leaf → List Move → Type 0
+Nest fs L ms = is_some (open_after_moves fs L no_record ms) ≡ true
 
 -- ---- where a walk stands
 
@@ -102,6 +123,10 @@ pub record IsAtLevels (fs : Fields) (F : List (List Step)) (rows : ℕ) (C : Lis
   pub gave : w.given ≡ min (length ms) (2 ^ 64 - 1)
   pub took : w.taken ≡ min (triplet_count ms + count_some (pending w) (length F)) (2 ^ 64 - 1)
 
+-- the leaf that is wanted once what was wanted has come
+abbrev pub wanted_then : LevelWalk → Option ℕ
+wanted_then w = then_wanted w.given (length w.course.heads.items) w.wanted
+
 -- where a leaf is wanted, the levels of its column's next triplet come, none at its end
 abbrev pub ComesNext : Left → Option ℕ → Option Levels → Type 0
 ComesNext left None more = more ≡ None
@@ -165,6 +190,10 @@ is_fit left (Some (LevelMove.Enter k)) = true
 is_fit left (Some (LevelMove.Leaf i l k)) = fits_next (option_map kind_view k) (head_of (left i))
 is_fit left (Some (LevelMove.Leave k)) = true
 
+-- the move that is given, if any, has the value that it asks for, and behind these moves it is the next of the records' walk
+abbrev pub IsNextOfWalk : Fields → List (List Step) → List record_tree.Node → List Move → Left → Option LevelMove → Type 0
+IsNextOfWalk fs F R ms left m = (is_fit left m ≡ true) × (rest : List Move) × (walk fs F R ≡ (ms ++ moves_over left m) ++ rest)
+
 -- the columns end where all is done
 pub record Ends (fs : Fields) (F : List (List Step)) (rows : ℕ) (C : List (List Triplet)) (ms : List Move) (left : Left) : Type 0 where
   pub stack : Stack
@@ -190,3 +219,8 @@ Goes fs F rows C ms left w (Ok None) = IsAtLevels fs F rows C ms left w × Ends 
 Goes fs F rows C ms left w (Ok (Some m)) = Gave fs F rows C ms left w m
 Goes fs F rows C ms left w (Err AssembleFault.BadData) = Stuck fs F rows C ms left
 Goes fs F rows C ms left w (Err AssembleFault.NoMemory) = ⊤
+
+-- where nothing is wanted, over any columns over which the walk stood: the next move, the end, or that there is neither
+abbrev pub GoesNext : LevelWalk → LevelWalk → Result (Option LevelMove) AssembleFault → Type 0
+GoesNext w w' result = (F : List (List Step)) (fs : Fields) (rows : ℕ) (C : List (List Triplet)) (ms : List Move) (left : Left) → IsAtLevels fs F rows C ms left w
+    → w.wanted ≡ None → Goes fs F rows C ms left w' result

@@ -1,20 +1,13 @@
 //! A walk over batches of columns.
 
-ghost use Rattle.std.specs.Prelude.{◌≡◌, ℕ, List, map, true, false, Some, None, Ok, Err, option_map};
-ghost use Rattle.std.specs.List.{list_all};
-ghost use Rattle.dr_meaning.specs.Path.{Leaf, Step, is_leaf_path};
-ghost use Rattle.dr_meaning.specs.WalkLaws.{AreLeavesOf};
-ghost use Rattle.dr_meaning.specs.Schema.{Fields};
-ghost use Rattle.dr_meaning.specs.Column.{Triplet as MeantTriplet};
-ghost use Rattle.dr_meaning.specs.Walk.{Move as MeantMove};
+ghost use Rattle.std.specs.Prelude.{◌≡◌, ℕ, false, Some, None, Ok, Err, option_map};
+ghost use Rattle.dr_meaning.specs.Path.{Leaf};
 ghost use Rattle.dr_levels.specs.Views.{levels_pair, triplets_view};
-ghost use Rattle.dr_moves.specs.Leading.{Left};
-ghost use Rattle.dr_moves.specs.Selection.{all_differ};
-ghost use Rattle.dr_walk.specs.Walking.{next_levels as meant_next, given_leaf};
+ghost use Rattle.dr_walk.specs.Walking.{next_levels as meant_next, given_leaf, OverLeaves};
 ghost use Rattle.dr_walk.specs.Checking.{rest_at, rest_behind};
 ghost use Rattle.dr_walk.specs.declared.fault.AssembleFault.{AssembleFault};
 ghost use Rattle.dr_walk.specs.declared.batches.Turned.{Turned as MeantTurned};
-ghost use Rattle.dr_walk.specs.Batches.{IsOver, is_last, ComesOf, IsGivenOf, GoesOver, Shrinks, NestsOver, OverBatches};
+ghost use Rattle.dr_walk.specs.Batches.{is_last, IsGivenOf, GoesOver, Shrinks, NestsOver, OverBatches, OverComing};
 
 use crate::column_walk::take_next;
 use crate::fault::AssembleFault;
@@ -98,16 +91,10 @@ fn go_on<'a>(
     more: Option<Levels>,
 ) -> Result<Turned<'a>, AssembleFault>
     requires { walk.old.wanted ≡ None → more ≡ None }
-    ensures goes { (fs : Fields) (F : List (List Step)) (C : List (List MeantTriplet)) (rows : ℕ)
-        (ms : List MeantMove) (later : Left) → list_all (is_leaf_path fs) F ≡ true → all_differ F ≡ true
-        → IsOver fs F C rows ms walk.old (rest_at rests.old) later
-        → ComesOf walk.old.wanted (rest_at rests.old) later more
-        → GoesOver fs F C rows ms later walk.new (rest_at rests.new) result }
-    ensures nests { (fs : Fields) (F : List (List Step)) (C : List (List MeantTriplet)) (rows : ℕ)
-        (ms : List MeantMove) (later : Left) → list_all (is_leaf_path fs) F ≡ true → all_differ F ≡ true
-        → IsOver fs F C rows ms walk.old (rest_at rests.old) later
-        → ComesOf walk.old.wanted (rest_at rests.old) later more → (L : List Leaf)
-        → map (λ (l : Leaf). l.path) L ≡ F → AreLeavesOf fs L → NestsOver fs L ms result }
+    ensures goes { OverComing walk.old (rest_at rests.old) more (λ fs F C rows ms later.
+        GoesOver fs F C rows ms later walk.new (rest_at rests.new) result) }
+    ensures nests { OverComing walk.old (rest_at rests.old) more (λ fs F C rows ms later.
+        OverLeaves fs F (λ L. NestsOver fs L ms result)) }
     ensures rests { Shrinks (rest_at rests.old) (rest_at rests.new) }
     ensures wants { (i : ℕ) → result ≡ Ok (MeantTurned.Wants i) → ⊥ }
     ensures again { (fault : AssembleFault) → walk.old.failed ≡ Some fault → result ≡ Err fault }
@@ -147,8 +134,8 @@ pub fn step_over<'a>(
     ensures goes { OverBatches walk.old (rest_at rests.old) ended.now (λ fs F C rows ms later.
         GoesOver fs F C rows ms later walk.new (rest_at rests.new) result) }
     // Whatever the columns, a move nests on those before it.
-    ensures nests { OverBatches walk.old (rest_at rests.old) ended.now (λ fs F C rows ms later. (L : List Leaf)
-        → map (λ (l : Leaf). l.path) L ≡ F → AreLeavesOf fs L → NestsOver fs L ms result) }
+    ensures nests { OverBatches walk.old (rest_at rests.old) ended.now (λ fs F C rows ms later.
+        OverLeaves fs F (λ L. NestsOver fs L ms result)) }
     ensures rests { Shrinks (rest_at rests.old) (rest_at rests.new) }
     // More of a leaf is asked for only where more may come of it.
     ensures wants { (i : ℕ) → result ≡ Ok (MeantTurned.Wants i) → is_last ended.now i ≡ false }

@@ -1,12 +1,12 @@
 //! A walk over columns that are there as a whole.
 
-ghost use Rattle.std.specs.Prelude.{◌≡◌, ℕ, List, length, map, [], true, option_map, IfOk};
+ghost use Rattle.std.specs.Prelude.{◌≡◌, ℕ, length, map, [], true, option_map, IfOk};
 ghost use Rattle.std.specs.List.{list_all};
-ghost use Rattle.dr_meaning.specs.Path.{Leaf, is_leaf_path};
-ghost use Rattle.dr_meaning.specs.WalkLaws.{AreLeavesOf};
+ghost use Rattle.dr_meaning.specs.Path.{is_leaf_path};
 ghost use Rattle.dr_nested.specs.Views.{fields_view};
 ghost use Rattle.dr_levels.specs.Views.{triplet_view, triplets_view};
 ghost use Rattle.dr_moves.specs.Selection.{all_differ};
+ghost use Rattle.dr_walk.specs.Walking.{OverLeaves};
 ghost use Rattle.dr_walk.specs.Checking.{rest_at, rest_behind, next_at, HasGiven, Advances, NestsOn, OverGiven};
 ghost use Rattle.dr_nested.specs.PathView.{lent_path};
 
@@ -58,8 +58,7 @@ fn step_on<'a>(
     rests: &mut [Triplets<'a>],
 ) -> Result<Advance<'a>, AssembleFault>
     ensures goes { OverGiven walk.old rests.old (λ fs F C rows ms. Advances fs F C rows ms walk.new rests.new result) }
-    ensures nests { OverGiven walk.old rests.old (λ fs F C rows ms. (L : List Leaf)
-        → map (λ (l : Leaf). l.path) L ≡ F → AreLeavesOf fs L → NestsOn fs L ms result) }
+    ensures nests { OverGiven walk.old rests.old (λ fs F C rows ms. OverLeaves fs F (λ L. NestsOn fs L ms result)) }
 {
     let more = take_next(rests, walk.wants());
     match walk.next(more) {
@@ -115,8 +114,8 @@ impl<'a> ColumnWalk<'a> {
         ensures goes { OverGiven (self.old).walk (self.old).rests.items (λ fs F C rows ms.
             Advances fs F C rows ms (self.new).walk (self.new).rests.items result) }
         // Whatever the columns, a move nests on those before it.
-        ensures nests { OverGiven (self.old).walk (self.old).rests.items (λ fs F C rows ms. (L : List Leaf)
-            → map (λ (l : Leaf). l.path) L ≡ F → AreLeavesOf fs L → NestsOn fs L ms result) }
+        ensures nests { OverGiven (self.old).walk (self.old).rests.items (λ fs F C rows ms.
+            OverLeaves fs F (λ L. NestsOn fs L ms result)) }
     {
         step_on(&mut self.walk, &mut self.rests)
     }

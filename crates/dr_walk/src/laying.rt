@@ -1,13 +1,13 @@
 //! Laying out the course of a schema and selected leaves.
 
-ghost use Rattle.std.specs.Prelude.{◌≡◌, ◌≤◌, ◌<◌, ◌+◌, ◌^◌, ◌++◌, ◌∷◌, [], List, length, map, true, OnOk, IfOk};
+ghost use Rattle.std.specs.Prelude.{◌≡◌, ◌≤◌, ◌<◌, ◌+◌, ◌^◌, ◌++◌, [], List, length, map, OnOk, IfOk};
 ghost use Rattle.dr_meaning.specs.Schema.{depth, shape_depth, greatest_depth, repeated_fields, shape_repeated_fields, repetition_count};
 ghost use Rattle.dr_meaning.specs.Schema as tree;
 ghost use Rattle.dr_nested.specs.Views.{rep_view, shape_view, fields_view};
-ghost use Rattle.dr_moves.specs.Course.{near_items, far_items, field_near_items, shape_near_items, shape_far_items, unless_repeated, where_selected, gated as meant_gated, course, Gate as MeantGate};
-ghost use Rattle.dr_walk.specs.Laying.{FlatItem, lay, laying, no_level, closed, visited, given, lap_of, plain_visit};
+ghost use Rattle.dr_moves.specs.Course.{near_items, field_near_items, shape_near_items, where_selected, gated as meant_gated, course, Gate as MeantGate};
+ghost use Rattle.dr_walk.specs.Laying.{lay, laying, no_level, closed, visited, lap_of, plain_visit};
 ghost use Rattle.dr_walk.specs.Views.{picks_view, gates_view, level_view, items_view, lap_view, visit_view};
-ghost use Rattle.dr_walk.specs.Flat.{far_of_field, visit_at, is_laid, is_table};
+ghost use Rattle.dr_walk.specs.Flat.{visit_at, is_laid, is_table, field_near, group_far, field_far, shape_far, laid_in, JoinsLevel, body_laid};
 ghost use Rattle.dr_nested.specs.PathView.{lent_path};
 
 use crate::counting::count_repeated;
@@ -54,9 +54,8 @@ fn add_group_near(
     level: &mut Level,
 ) -> Result<(), NoMemory>
     requires { definition + depth (fields_view (fields.now).items) ≤ greatest_depth }
-    ensures { OnOk result ((code : List FlatItem) → laying code (level_view level.new)
-        ≡ lay (near_items (fields_view (fields.now).items) (picks_view picks.now) (gates_view gates.now) definition)
-        (laying code (level_view level.old))) }
+    ensures { OnOk result (JoinsLevel (near_items (fields_view (fields.now).items) (picks_view picks.now)
+        (gates_view gates.now) definition) level.old level.new) }
 {
     'fields: for (place, field) in fields.iter().enumerate() {
         let behind = picks_behind(alloc, picks, place)?;
@@ -76,10 +75,7 @@ fn add_field_near(
     level: &mut Level,
 ) -> Result<(), NoMemory>
     requires { definition + 1 + shape_depth (shape_view (field.now).shape) ≤ greatest_depth }
-    ensures { OnOk result ((code : List FlatItem) → laying code (level_view level.new)
-        ≡ lay (unless_repeated (rep_view (field.now).rep) (field_near_items (rep_view (field.now).rep) (shape_view
-        (field.now).shape) (picks_view picks.now) (gates_view gates.now) definition)) (laying code (level_view
-        level.old))) }
+    ensures { OnOk result (JoinsLevel (field_near field.now picks.now gates.now definition) level.old level.new) }
 {
     match field.rep {
         Rep::Required => add_shape_near(alloc, &field.shape, picks, gates, definition, level),
@@ -99,9 +95,8 @@ fn add_optional_near(
     level: &mut Level,
 ) -> Result<(), NoMemory>
     requires { definition + 1 + shape_depth (shape_view shape.now) ≤ greatest_depth }
-    ensures { OnOk result ((code : List FlatItem) → laying code (level_view level.new)
-        ≡ lay (field_near_items tree.optional (shape_view shape.now) (picks_view picks.now) (gates_view gates.now)
-        definition) (laying code (level_view level.old))) }
+    ensures { OnOk result (JoinsLevel (field_near_items tree.optional (shape_view shape.now) (picks_view picks.now)
+        (gates_view gates.now) definition) level.old level.new) }
 {
     match shape {
         Shape::Leaf(kind) => {
@@ -125,9 +120,8 @@ fn add_shape_near(
     level: &mut Level,
 ) -> Result<(), NoMemory>
     requires { definition + shape_depth (shape_view shape.now) ≤ greatest_depth }
-    ensures { OnOk result ((code : List FlatItem) → laying code (level_view level.new)
-        ≡ lay (shape_near_items (shape_view shape.now) (picks_view picks.now) (gates_view gates.now) definition)
-        (laying code (level_view level.old))) }
+    ensures { OnOk result (JoinsLevel (shape_near_items (shape_view shape.now) (picks_view picks.now)
+        (gates_view gates.now) definition) level.old level.new) }
 {
     match shape {
         Shape::Leaf(kind) => level.add_gives(alloc, *kind, picks, gates, definition, definition),
@@ -187,9 +181,9 @@ fn add_visit(
     level: &mut Level,
 ) -> Result<(), NoMemory>
     requires { at.level < greatest_depth }
-    ensures { OnOk result ((s : tree.Shape) → laying (items_view (code.new).items) (level_view level.new)
-        ≡ visited (visit_at s (picks_view picks.now) at (gates_view gates.now)) (laying (items_view
-        (code.old).items) (level_view body)) (level_view level.old)) }
+    ensures { OnOk result ((s : tree.Shape) → laid_in code.new level.new
+        ≡ visited (visit_at s (picks_view picks.now) at (gates_view gates.now)) (laid_in code.old body)
+        (level_view level.old)) }
 {
     let nulls = nulls_in(alloc, &body.items)?;
     let place = code.len();
@@ -214,9 +208,8 @@ fn add_group_far(
     requires levels { at.level + depth (fields_view (fields.now).items) ≤ greatest_depth }
     requires definitions { at.definition + depth (fields_view (fields.now).items) ≤ greatest_depth }
     requires numbers { at.number + repeated_fields (fields_view (fields.now).items) < 2 ^ 32 }
-    ensures { OnOk result (laying (items_view (code.new).items) (level_view level.new)
-        ≡ lay (far_items (fields_view (fields.now).items) (picks_view picks.now) at.number at.level (gates_view
-        gates.now) at.definition) (laying (items_view (code.old).items) (level_view level.old))) }
+    ensures { OnOk result (laid_in code.new level.new
+        ≡ lay (group_far (fields.now).items picks.now at gates.now) (laid_in code.old level.old)) }
 {
     let mut at = at;
     'fields: for (place, field) in fields.iter().enumerate() {
@@ -242,10 +235,9 @@ fn add_selected_far(
     requires definitions { at.definition + 1 + shape_depth (shape_view (field.now).shape) ≤ greatest_depth }
     requires numbers { at.number + (repetition_count (rep_view (field.now).rep) + shape_repeated_fields (shape_view
         (field.now).shape)) < 2 ^ 32 }
-    ensures { OnOk result (laying (items_view (code.new).items) (level_view level.new)
-        ≡ lay (where_selected (picks_view picks.now) (far_of_field (rep_view (field.now).rep) (shape_view
-        (field.now).shape) (picks_view picks.now) at (gates_view gates.now))) (laying (items_view (code.old).items)
-        (level_view level.old))) }
+    ensures { OnOk result (laid_in code.new level.new
+        ≡ lay (where_selected (picks_view picks.now) (field_far field.now picks.now at gates.now))
+        (laid_in code.old level.old)) }
 {
     match picks {
         [] => Ok(()),
@@ -268,9 +260,8 @@ fn add_field_far(
     requires definitions { at.definition + 1 + shape_depth (shape_view (field.now).shape) ≤ greatest_depth }
     requires numbers { at.number + (repetition_count (rep_view (field.now).rep) + shape_repeated_fields (shape_view
         (field.now).shape)) < 2 ^ 32 }
-    ensures { OnOk result (laying (items_view (code.new).items) (level_view level.new)
-        ≡ lay (far_of_field (rep_view (field.now).rep) (shape_view (field.now).shape) (picks_view picks.now) at
-        (gates_view gates.now)) (laying (items_view (code.old).items) (level_view level.old))) }
+    ensures { OnOk result (laid_in code.new level.new
+        ≡ lay (field_far field.now picks.now at gates.now) (laid_in code.old level.old)) }
 {
     match field.rep {
         Rep::Required => add_shape_far(alloc, &field.shape, picks, at, gates, code, level),
@@ -302,10 +293,8 @@ fn body_of(
     requires levels { at.level + 1 + shape_depth (shape_view shape.now) ≤ greatest_depth }
     requires definitions { at.definition + 1 + shape_depth (shape_view shape.now) ≤ greatest_depth }
     requires numbers { at.number + (1 + shape_repeated_fields (shape_view shape.now)) < 2 ^ 32 }
-    ensures { IfOk result (λ level. laying (items_view (code.new).items) (level_view level)
-        ≡ lay (shape_far_items (shape_view shape.now) (picks_view picks.now) (at.number + 1) (at.level + 1) []
-        (at.definition + 1)) (lay (shape_near_items (shape_view shape.now) (picks_view picks.now) [] (at.definition
-        + 1)) (laying (items_view (code.old).items) no_level))) }
+    ensures { IfOk result (λ level. laid_in code.new level ≡ body_laid (shape_view shape.now) (picks_view picks.now)
+        at (laying (items_view (code.old).items) no_level)) }
 {
     let mut level = Level::new(alloc);
     let inside = Depth {
@@ -332,9 +321,8 @@ fn add_shape_far(
     requires levels { at.level + shape_depth (shape_view shape.now) ≤ greatest_depth }
     requires definitions { at.definition + shape_depth (shape_view shape.now) ≤ greatest_depth }
     requires numbers { at.number + shape_repeated_fields (shape_view shape.now) < 2 ^ 32 }
-    ensures { OnOk result (laying (items_view (code.new).items) (level_view level.new)
-        ≡ lay (shape_far_items (shape_view shape.now) (picks_view picks.now) at.number at.level (gates_view
-        gates.now) at.definition) (laying (items_view (code.old).items) (level_view level.old))) }
+    ensures { OnOk result (laid_in code.new level.new
+        ≡ lay (shape_far shape.now picks.now at gates.now) (laid_in code.old level.old)) }
 {
     match shape {
         Shape::Leaf(_) => Ok(()),

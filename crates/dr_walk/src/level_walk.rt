@@ -3,18 +3,14 @@
 ghost use Rattle.std.specs.Prelude.{◌≡◌, ◌≤◌, ◌<◌, ◌+◌, ◌-◌, ◌*◌, ◌^◌, min, Ok, Err, ◌≢◌, ◌++◌, [], option_map, List, ℕ, length, map, true, Some, None, is_some, IfOk, IsErrOf};
 ghost use Rattle.std.specs.List.{list_all};
 ghost use Rattle.dr_meaning.specs.Path.{is_leaf_path, Leaf};
-ghost use Rattle.dr_meaning.specs.Record as record_tree;
 ghost use Rattle.dr_meaning.specs.Walk as meant;
-ghost use Rattle.dr_meaning.specs.WalkLaws.{open_after_moves, AreLeavesOf};
 ghost use Rattle.dr_meaning.specs.Column as meant_column;
-ghost use Rattle.dr_meaning.specs.Schema.{Fields};
-ghost use Rattle.dr_meaning.specs.Path.{Step as MeantStep};
 ghost use Rattle.dr_nested.specs.Views.{fields_view};
 ghost use Rattle.dr_walk.specs.declared.level_move.LevelMove.{LevelMove as MeantMove};
 ghost use Rattle.dr_walk.specs.Seen.{levels_at};
 ghost use Rattle.dr_walk.specs.Walking.{count_one, first_wanted};
 ghost use Rattle.dr_levels.specs.Views.{levels_pair};
-ghost use Rattle.dr_moves.specs.Leading.{Left, columns_of};
+ghost use Rattle.dr_moves.specs.Leading.{columns_of};
 ghost use Rattle.dr_moves.specs.Selection.{all_differ};
 ghost use Rattle.dr_walk.specs.declared.fault.AssembleFault.{AssembleFault};
 ghost use Rattle.dr_nested.specs.PathView.{lent_path};
@@ -60,7 +56,7 @@ fn count_of(levels: Option<Levels>) -> u64
 }
 
 impl LevelWalk {
-    ghost use Rattle.dr_walk.specs.Walking.{OverLevels, IsAtLevels, ComesNext, HasColumns, NoneHas, Goes, moves_over, behind_moves, is_fit, HasLevels, pending, wanted_behind as meant_behind, then_wanted, WantsNext};
+    ghost use Rattle.dr_walk.specs.Walking.{OverLevels, IsAtLevels, NoneHas, moves_over, behind_moves, is_fit, HasLevels, pending, wanted_behind as meant_behind, WantsNext, OverRecords, OverLeaves, IsNextOfWalk, IsWholeWalk, Nest, GoesNext, wanted_then};
     ghost use Rattle.dr_walk.specs.Standing.{Stands};
     ghost use Rattle.dr_moves.specs.Course.{Items};
     ghost use Rattle.dr_moves.specs.Turning.{Stack};
@@ -138,33 +134,28 @@ impl LevelWalk {
         // The levels of a leaf's move are those of the column's next triplet.
         ensures levels { OverLevels self.old more (λ fs F rows C ms left. IfOk result (HasLevels left)) }
         // Where records have the columns, their walk's moves are given, in order.
-        ensures front { OverLevels self.old more (λ fs F rows C ms left. (R : List record_tree.Node)
-            → list_all (is_leaf_path fs) F ≡ true → HasColumns fs F C rows R → IfOk result (λ m.
-            (is_fit left m ≡ true) × (rest : List meant.Move) × (meant.walk fs F R
-            ≡ (ms ++ moves_over left m) ++ rest))) }
+        ensures front { OverLevels self.old more (λ fs F rows C ms left. OverRecords fs F rows C (λ R.
+            IfOk result (IsNextOfWalk fs F R ms left))) }
         // No records have columns that are refused.
         ensures bad { OverLevels self.old more (λ fs F rows C ms left.
             list_all (is_leaf_path fs) F ≡ true → IsErrOf result AssembleFault.BadData → NoneHas fs F C rows) }
         // Where nothing is wanted, no move comes exactly where records have the columns and their whole walk was given.
         ensures whole { OverLevels self.old more (λ fs F rows C ms left.
             list_all (is_leaf_path fs) F ≡ true → all_differ F ≡ true → result ≡ Ok None → self.new.wanted ≡ None
-            → (R : List record_tree.Node) × HasColumns fs F C rows R × (meant.walk fs F R ≡ ms)) }
-        ensures last { OverLevels self.old more (λ fs F rows C ms left. (R : List record_tree.Node)
-            → list_all (is_leaf_path fs) F ≡ true → HasColumns fs F C rows R → meant.walk fs F R ≡ ms
-            → IfOk result (λ m. m ≡ None)) }
+            → IsWholeWalk fs F rows C ms) }
+        ensures last { OverLevels self.old more (λ fs F rows C ms left. OverRecords fs F rows C (λ R.
+            meant.walk fs F R ≡ ms → IfOk result (λ m. m ≡ None))) }
         // Where a leaf is wanted after it, none is given only where this call took what was wanted.
         ensures asked { (i : ℕ) → result ≡ Ok None → self.new.wanted ≡ Some i → (j : ℕ) × (self.old.wanted ≡ Some j) }
         // A leaf is wanted before the first move, each in turn, and where the last move gave its triplet.
-        ensures wants { OverLevels self.old more (λ fs F rows C ms left. IfOk result (λ m. WantsNext m
-            (then_wanted self.old.given (length self.old.course.heads.items) self.old.wanted) self.new.wanted)) }
+        ensures wants { OverLevels self.old more (λ fs F rows C ms left. IfOk result (λ m.
+            WantsNext m (wanted_then self.old) self.new.wanted)) }
         // No leaf is wanted after its end.
         ensures ended { OverLevels self.old more (λ fs F rows C ms left. (i : ℕ)
             → self.old.wanted ≡ Some i → more ≡ None → self.new.wanted ≡ Some i → ⊥) }
         // Whatever the columns, each move nests on what is open.
-        ensures nests { OverLevels self.old more (λ fs F rows C ms left. (L : List Leaf)
-            → map (λ (l : Leaf). l.path) L ≡ F → AreLeavesOf fs L → all_differ F ≡ true
-            → IfOk result (λ m. is_fit left m ≡ true
-            → is_some (open_after_moves fs L meant.no_record (ms ++ moves_over left m)) ≡ true)) }
+        ensures nests { OverLevels self.old more (λ fs F rows C ms left. OverLeaves fs F (λ L. all_differ F ≡ true
+            → IfOk result (λ m. is_fit left m ≡ true → Nest fs L (ms ++ moves_over left m)))) }
         // At most two moves are given for each record, and 65 for each triplet that was taken.
         ensures bound { OverLevels self.old more (λ fs F rows C ms left.
             list_all (is_leaf_path fs) F ≡ true → IfOk result (λ m. is_fit left m ≡ true
@@ -196,8 +187,7 @@ impl LevelWalk {
         ensures idle { self.old.wanted ≡ None → self.new.wanted ≡ None }
         ensures other { (i : ℕ) → self.old.wanted ≡ Some i → self.new.wanted ≡ Some i → ⊥ }
         ensures failed { self.new.failed ≡ self.old.failed }
-        ensures next { OverLevels self.old more (λ fs F rows C ms left.
-            self.new.wanted ≡ then_wanted self.old.given (length self.old.course.heads.items) self.old.wanted) }
+        ensures next { OverLevels self.old more (λ fs F rows C ms left. self.new.wanted ≡ wanted_then self.old) }
     {
         if let Some(leaf) = self.wanted {
             self.keep(leaf, more);
@@ -240,9 +230,7 @@ impl LevelWalk {
     /// The next move, where nothing is wanted.
     #[inline(always)]
     fn go_on(&mut self) -> Result<Option<LevelMove>, AssembleFault>
-        ensures goes { (F : List (List MeantStep)) (fs : Fields) (rows : ℕ) (C : List (List meant_column.Triplet)) (ms :
-            List meant.Move) (left : Left) → IsAtLevels fs F rows C ms left self.old → self.old.wanted ≡ None
-            → Goes fs F rows C ms left self.new result }
+        ensures goes { GoesNext self.old self.new result }
         ensures failed { self.new.failed ≡ self.old.failed }
         ensures rests { result ≡ Ok None → self.new.wanted ≡ self.old.wanted }
         ensures turns { self.old.wanted ≡ None → IfOk result (λ m. WantsNext m None self.new.wanted) }

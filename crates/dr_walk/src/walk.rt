@@ -1,11 +1,9 @@
 //! The walk of records over their columns, as a stream of moves.
 
-ghost use Rattle.std.specs.Prelude.{◌≡◌, ◌≤◌, ◌<◌, ◌+◌, ◌*◌, false, Ok, Err, ◌≢◌, ◌++◌, [], get_or, option_map, replicate, List, ℕ, length, map, true, Some, None, is_some, IfOk, IsErrOf};
+ghost use Rattle.std.specs.Prelude.{◌≡◌, ◌≤◌, ◌<◌, ◌+◌, ◌*◌, Ok, Err, ◌≢◌, ◌++◌, [], get_or, option_map, replicate, List, ℕ, length, map, true, Some, None, IfOk, IsErrOf};
 ghost use Rattle.std.specs.List.{list_all};
 ghost use Rattle.dr_meaning.specs.Path.{is_leaf_path, Leaf};
-ghost use Rattle.dr_meaning.specs.Record as record_tree;
 ghost use Rattle.dr_meaning.specs.Walk as meant;
-ghost use Rattle.dr_meaning.specs.WalkLaws.{open_after_moves, AreLeavesOf};
 ghost use Rattle.dr_meaning.specs.Column as meant_column;
 ghost use Rattle.dr_nested.specs.Views.{fields_view, kind_view};
 ghost use Rattle.dr_walk.specs.Standing.{fits as meant_fits};
@@ -102,7 +100,7 @@ fn keep<'a>(values: &mut Vec<Option<ValueRef<'a>>>, wanted: Option<u32>, more: O
 }
 
 impl<'a> Walk<'a> {
-    ghost use Rattle.dr_walk.specs.Walking.{HasColumns, NoneHas, then_wanted, HasLevels};
+    ghost use Rattle.dr_walk.specs.Walking.{NoneHas, HasLevels, OverRecords, OverLeaves, WalkBegins, IsWholeWalk, Nest, wanted_then};
     ghost use Rattle.dr_walk.specs.Valued.{OverColumns, IsAt, moves_of, left_behind, Wants, IsKeptFor, IsGiven, IsValued, HasForm};
 
     /// A walk over columns of so many records at some leaves, each given by its path; the columns go by the places of
@@ -158,33 +156,29 @@ impl<'a> Walk<'a> {
         ensures on { OverColumns self.old more.entry (λ fs F rows C ms left.
             IfOk result (λ m. IsAt fs F rows C (ms ++ moves_of m) (left_behind m left) self.new)) }
         // Where records have the columns, their walk's moves are given, in order.
-        ensures front { OverColumns self.old more.entry (λ fs F rows C ms left. (R : List record_tree.Node)
-            → list_all (is_leaf_path fs) F ≡ true → HasColumns fs F C rows R
-            → IfOk result (λ m. (rest : List meant.Move) × (meant.walk fs F R ≡ (ms ++ moves_of m) ++ rest))) }
+        ensures front { OverColumns self.old more.entry (λ fs F rows C ms left. OverRecords fs F rows C (λ R.
+            IfOk result (λ m. WalkBegins fs F R (ms ++ moves_of m)))) }
         // No records have columns that are refused.
         ensures bad { OverColumns self.old more.entry (λ fs F rows C ms left.
             list_all (is_leaf_path fs) F ≡ true → IsErrOf result AssembleFault.BadData → NoneHas fs F C rows) }
         // Where nothing is wanted, no move comes exactly where records have the columns and their whole walk was given.
         ensures whole { OverColumns self.old more.entry (λ fs F rows C ms left.
             list_all (is_leaf_path fs) F ≡ true → all_differ F ≡ true → result ≡ Ok None → self.new.levels.wanted ≡ None
-            → (R : List record_tree.Node) × HasColumns fs F C rows R × (meant.walk fs F R ≡ ms)) }
-        ensures last { OverColumns self.old more.entry (λ fs F rows C ms left. (R : List record_tree.Node)
-            → list_all (is_leaf_path fs) F ≡ true → HasColumns fs F C rows R → meant.walk fs F R ≡ ms
-            → IfOk result (λ m. m ≡ None)) }
+            → IsWholeWalk fs F rows C ms) }
+        ensures last { OverColumns self.old more.entry (λ fs F rows C ms left. OverRecords fs F rows C (λ R.
+            meant.walk fs F R ≡ ms → IfOk result (λ m. m ≡ None))) }
         // Where a leaf is wanted after it, none is given only where this call took what was wanted.
         ensures asked { (i : ℕ) → result ≡ Ok None → self.new.levels.wanted ≡ Some i
             → (j : ℕ) × (self.old.levels.wanted ≡ Some j) }
         // A leaf is wanted before the first move, each in turn, and where the last move gave its triplet.
-        ensures wants { OverColumns self.old more.entry (λ fs F rows C ms left. IfOk result (λ m. Wants m
-            (then_wanted self.old.levels.given (length self.old.levels.course.heads.items) self.old.levels.wanted)
-            self.new.levels.wanted)) }
+        ensures wants { OverColumns self.old more.entry (λ fs F rows C ms left. IfOk result (λ m.
+            Wants m (wanted_then self.old.levels) self.new.levels.wanted)) }
         // No leaf is wanted after its end.
         ensures ended { OverColumns self.old more.entry (λ fs F rows C ms left. (i : ℕ)
             → self.old.levels.wanted ≡ Some i → more.entry ≡ None → self.new.levels.wanted ≡ Some i → ⊥) }
         // Whatever the columns, each move nests on what is open.
-        ensures nests { OverColumns self.old more.entry (λ fs F rows C ms left. (L : List Leaf)
-            → map (λ (l : Leaf). l.path) L ≡ F → AreLeavesOf fs L → all_differ F ≡ true
-            → IfOk result (λ m. is_some (open_after_moves fs L meant.no_record (ms ++ moves_of m)) ≡ true)) }
+        ensures nests { OverColumns self.old more.entry (λ fs F rows C ms left. OverLeaves fs F (λ L.
+            all_differ F ≡ true → IfOk result (λ m. Nest fs L (ms ++ moves_of m)))) }
         // At most two moves are given for each record, and 65 for each triplet that was taken.
         ensures bound { OverColumns self.old more.entry (λ fs F rows C ms left.
             list_all (is_leaf_path fs) F ≡ true → IfOk result (λ m. self.new.levels.given
