@@ -1,12 +1,14 @@
 -- The columns of a file's leaves, some records at a time: what their streams gave, and what a link is asked for that.
-use Rattle.std.specs.Prelude.{◌≡◌, ◌≢◌, ◌≤◌, ◌+◌, ◌-◌, ℕ, List, [], ◌∷◌, ◌++◌, length, drop, Bool, true, Option, Some, None, Result, IfErr}
-use Rattle.std.specs.List.{flat_map}
+use Rattle.std.specs.Prelude.{◌≡◌, ◌≢◌, ◌≤◌, ◌+◌, ◌-◌, ℕ, List, [], ◌∷◌, ◌++◌, length, drop, Bool, true, Option, Some, None, Result, IfErr, slice_set, Vec}
+use Rattle.std.specs.declared.alloc.Global.{Global}
+use Rattle.std.specs.List.{flat_map, slice_get}
 use Rattle.dr_meaning.specs.Path.{Leaf}
 use Rattle.dr_meaning.specs.Column.{Triplet}
 use Rattle.dr_meaning.specs.OneColumn.{starts, begins_record}
 use Rattle.dr_formats.specs.File.{Footer, footer_of, leaves_read}
 use Rattle.dr_formats.specs.Opening.{leaf_cause, leaf_ranges}
 use Rattle.dr_levels.specs.Views.{column_view}
+use Rattle.dr_levels.specs.declared.column.Column.{Column}
 use Rattle.dr_outside.specs.Link.{Files, LinkShown}
 use Rattle.dr_outside.specs.Telling.{TellsFile, AsksOnly}
 use Rattle.dr_chunk.specs.Ranges.{is_read_inside}
@@ -41,6 +43,18 @@ pub record IsLeafRecords (held : Option Files) (o : Opened) (F : List Leaf) (l :
   pub of : (bytes : List ℕ) → IsTold held o F bytes → IsStreamOf bytes l given x.stream
   pub last : (bytes : List ℕ) → IsTold held o F bytes → x.ended ≡ true → IsColumnOf bytes l given
 
+-- what is said of a call, over whatever the stream of a leaf of an opened file gave, where the link holds what it shows
+abbrev pub OverLeafRecords : LinkShown → LeafRecords → (Opened → List Leaf → Leaf → List Triplet → Type 0) → Type 0
+OverLeafRecords link x says = (o : Opened) (F : List Leaf) (l : Leaf) (given : List Triplet) → IsLeafRecords link.held o F l given x → says o F l given
+
+-- the same over whatever was taken of it, behind which stands what is left of the batch, and of the leaf at an index
+abbrev pub OverTaken : LinkShown → LeafRecords → (Opened → List Leaf → Leaf → List Triplet → Type 0) → Type 0
+OverTaken link x says = (o : Opened) (F : List Leaf) (l : Leaf) (front : List Triplet) → IsLeafRecords link.held o F l (front ++ rest_of x) x → says o F l front
+
+abbrev pub OverTakenAt : LinkShown → List LeafRecords → ℕ → (Opened → List Leaf → Leaf → LeafRecords → List Triplet → Type 0) → Type 0
+OverTakenAt link xs index says = (o : Opened) (F : List Leaf) (l : Leaf) (x : LeafRecords) (front : List Triplet) → slice_get xs index ≡ Some x
+    → IsLeafRecords link.held o F l (front ++ rest_of x) x → says o F l x front
+
 -- some triplets of the batch were passed, which joined a column; so many records were wanted, and fewer by those that begin in them. It is told whether
 -- the next record begins behind them, or nothing comes behind the batch
 pub record IsPassed (x y : LeafRecords) (wanted still : ℕ) (before after : List Triplet) (whole : Bool) : Type 0 where
@@ -62,6 +76,10 @@ pub record IsTaken (held : Option Files) (o : Opened) (F : List Leaf) (l : Leaf)
   pub ends : rest_of y ≡ [] → y.ended ≡ true
   -- where a record began there, they begin with one
   pub begins : begins_record (rest_of x) ≡ true → (rest_of x ≡ [] → x.ended ≡ true) → begins_record ts ≡ true
+
+-- they were taken of the leaf at an index, and the others are as they were
+abbrev pub IsTakenAt : Option Files → Opened → List Leaf → Leaf → List Triplet → ℕ → LeafRecords → ℕ → Vec LeafRecords Global → Vec LeafRecords Global → Column → Type 0
+IsTakenAt held o F l front k x index xs ys c = (y : LeafRecords) × (ys.items ≡ slice_set xs.items index y) × IsTaken held o F l front k x y (column_view c)
 
 -- ---- what a link is asked for
 

@@ -4,7 +4,9 @@ use Rattle.dr_meaning.specs.Schema.{Schema, Fields}
 use Rattle.dr_meaning.specs.Path.{Leaf}
 use Rattle.dr_outside.specs.Link.{LinkShown}
 use Rattle.dr_reading.specs.Causes.{LeadTo}
-use Rattle.dr_reading.specs.Scan.{Copy}
+use Rattle.dr_reading.specs.Scan.{Copy, copies_from}
+use Rattle.dr_table.specs.Views.{table_view}
+use Rattle.dr_table.specs.declared.table.Table.{Table}
 use Rattle.dr_reading.specs.Left as left
 use Rattle.dr_reading.specs.InTurn.{TabletRead, read_given, read_left, IsTabletRead, causes_at}
 use Rattle.dr_tablets.specs.Views.{all_tried_view}
@@ -26,3 +28,7 @@ IsPrintedAs s F link now cs before after lines =
 abbrev pub with_lines : ℕ → TabletLines → List left.LeftTablet → List left.LeftTablet
 with_lines t TabletLines.Printed ls = ls
 with_lines t (TabletLines.Left tried) ls = ls ++ record { tablet = t; tried = all_tried_view tried.items } ∷ []
+
+-- the copies of a tablet of a table
+abbrev pub copies_in : Table → ℕ → List Copy
+copies_in table tablet = copies_from (table_view table).leaves tablet 0 table.copies

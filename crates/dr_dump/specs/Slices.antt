@@ -5,7 +5,7 @@ use Rattle.dr_meaning.specs.Path.{Leaf}
 use Rattle.dr_meaning.specs.Record.{Node}
 use Rattle.dr_meaning.specs.Column.{Triplet, column}
 use Rattle.dr_meaning.specs.OneColumn.{begins_record}
-use Rattle.dr_outside.specs.Link.{Files}
+use Rattle.dr_outside.specs.Link.{Files, LinkShown}
 use Rattle.dr_file.specs.declared.opened.Opened.{Opened}
 use Rattle.dr_dump.specs.Leaves.{rest_of, IsLeafRecords, IsTaken}
 use Rattle.dr_dump.specs.declared.leaf_records.LeafRecords.{LeafRecords}
@@ -23,6 +23,10 @@ pub record IsBehind (held : Option Files) (o : Opened) (F : List Leaf) (l : Leaf
 pub record AreBehind (held : Option Files) (o : Opened) (F : List Leaf) (R : List Node) (xs : List LeafRecords) : Type 0 where
   pub as_many : length xs ≡ length F
   pub each : (i : ℕ) (l : Leaf) (x : LeafRecords) → slice_get F i ≡ Some l → slice_get xs i ≡ Some x → IsBehind held o F l R x
+
+-- what is said of a call, over whatever records behind which the leaves stand, where the link holds what it shows
+abbrev pub OverBehind : LinkShown → List LeafRecords → (Opened → List Leaf → List Node → Type 0) → Type 0
+OverBehind link xs says = (o : Opened) (F : List Leaf) (R : List Node) → AreBehind link.held o F R xs → says o F R
 
 -- of the first n leaves, which stood behind these records, the next columns were taken, of at most k records
 pub record AreTaken (held : Option Files) (o : Opened) (F : List Leaf) (R : List Node) (k n : ℕ) (xs ys : List LeafRecords) (C : List (List Triplet)) : Type 0 where

@@ -26,15 +26,13 @@ pub(crate) struct LeafRecords<'f> {
 }
 
 impl<'f> LeafRecords<'f> {
-    ghost use Rattle.std.specs.Prelude.{◌<◌, ◌++◌, [], ℕ, List, Some, Option, IfOk, OnOk};
+    ghost use Rattle.std.specs.Prelude.{◌<◌, ◌++◌, [], List, Some, Option, IfOk, OnOk};
     ghost use Rattle.dr_levels.specs.Views.{column_view, triplets_form, triplets_view};
     ghost use Rattle.std.specs.List.{slice_get};
     ghost use Rattle.dr_meaning.specs.Path.{Leaf};
-    ghost use Rattle.dr_meaning.specs.Column.{Triplet};
     ghost use Rattle.dr_outside.specs.Link.{Files};
     ghost use Rattle.dr_file.specs.OpenedFiles.{leaf_count};
-    ghost use Rattle.dr_file.specs.declared.opened.Opened.{Opened as MeantOpened};
-    ghost use Rattle.dr_dump.specs.Leaves.{rest_of, IsLeafRecords, IsPassed, IsTaken, ReadsLeaf};
+    ghost use Rattle.dr_dump.specs.Leaves.{rest_of, IsLeafRecords, IsPassed, IsTaken, ReadsLeaf, OverLeafRecords, OverTaken};
     ghost use Rattle.dr_dump.specs.Lines.{is_passed as meant_passed};
 
     /// Before the first triplet of the leaf at an index of those that the file was opened for.
@@ -81,12 +79,10 @@ impl<'f> LeafRecords<'f> {
     /// Errors: the link failed, with its counts of faults before and after this call; `BadData` where the leaf's chunks
     /// spell no column of any records; want of memory.
     fn refill<L: Link>(&mut self, alloc: Global, link: &mut L) -> Result<(), FileFault>
-        ensures filled { (o : MeantOpened) (F : List Leaf) (l : Leaf) (given : List Triplet)
-            → IsLeafRecords (L.shows link.old).held o F l given self.old
-            → OnOk result (IsLeafRecords (L.shows link.old).held o F l (given ++ rest_of self.new) self.new) }
-        ensures reads { (o : MeantOpened) (F : List Leaf) (l : Leaf) (given : List Triplet)
-            → IsLeafRecords (L.shows link.old).held o F l given self.old
-            → ReadsLeaf o F l result (L.shows link.old) (L.shows link.new) }
+        ensures filled { OverLeafRecords (L.shows link.old) self.old (λ o F l given.
+            OnOk result (IsLeafRecords (L.shows link.old).held o F l (given ++ rest_of self.new) self.new)) }
+        ensures reads { OverLeafRecords (L.shows link.old) self.old (λ o F l given.
+            ReadsLeaf o F l result (L.shows link.old) (L.shows link.new)) }
         ensures form { stream_form (self.new).stream ≡ stream_form (self.old).stream }
     {
         self.batch.clear();
@@ -132,13 +128,10 @@ impl<'f> LeafRecords<'f> {
         link: &mut L,
         records: u64,
     ) -> Result<Column, FileFault>
-        ensures taken { (o : MeantOpened) (F : List Leaf) (l : Leaf) (front : List Triplet)
-            → IsLeafRecords (L.shows link.old).held o F l (front ++ rest_of self.old) self.old
-            → IfOk result (λ c. IsTaken (L.shows link.old).held o F l front records self.old self.new
-            (column_view c)) }
-        ensures reads { (o : MeantOpened) (F : List Leaf) (l : Leaf) (front : List Triplet)
-            → IsLeafRecords (L.shows link.old).held o F l (front ++ rest_of self.old) self.old
-            → ReadsLeaf o F l result (L.shows link.old) (L.shows link.new) }
+        ensures taken { OverTaken (L.shows link.old) self.old (λ o F l front. IfOk result (λ c.
+            IsTaken (L.shows link.old).held o F l front records self.old self.new (column_view c))) }
+        ensures reads { OverTaken (L.shows link.old) self.old (λ o F l front.
+            ReadsLeaf o F l result (L.shows link.old) (L.shows link.new)) }
     {
         let mut column = self.stream.column(alloc);
         let mut wanted = records;

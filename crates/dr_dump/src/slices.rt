@@ -1,18 +1,13 @@
 //! The columns of a file's leaves, some records at a time.
 
-ghost use Rattle.std.specs.Prelude.{◌≡◌, ◌++◌, [], ℕ, List, length, Option, Some, IfOk};
-ghost use Rattle.std.specs.List.{slice_get, slice_set};
+ghost use Rattle.std.specs.Prelude.{◌≡◌, [], List, length, Option, Some, IfOk};
 ghost use Rattle.dr_meaning.specs.Path.{Leaf};
-ghost use Rattle.dr_meaning.specs.Record.{Node};
-ghost use Rattle.dr_meaning.specs.Column.{Triplet};
-ghost use Rattle.dr_levels.specs.Views.{column_view, columns_view};
+ghost use Rattle.dr_levels.specs.Views.{columns_view};
 ghost use Rattle.dr_outside.specs.Link.{Files};
 ghost use Rattle.dr_file.specs.OpenedFiles.{leaf_count};
-ghost use Rattle.dr_file.specs.declared.opened.Opened.{Opened as MeantOpened};
 ghost use Rattle.dr_tablets.specs.FileRecords.{IsColumnsFault};
-ghost use Rattle.dr_dump.specs.Leaves.{rest_of, IsLeafRecords, IsTaken, ReadsLeaf, ReadsLeaves};
-ghost use Rattle.dr_dump.specs.Slices.{AreBehind, AreTaken};
-ghost use Rattle.dr_dump.specs.declared.leaf_records.LeafRecords.{LeafRecords as MeantRecords};
+ghost use Rattle.dr_dump.specs.Leaves.{ReadsLeaf, ReadsLeaves, OverTakenAt, IsTakenAt};
+ghost use Rattle.dr_dump.specs.Slices.{AreBehind, AreTaken, OverBehind};
 
 use crate::leaf_records::LeafRecords;
 use dr_file::{FileFault, Opened};
@@ -50,15 +45,10 @@ fn take_at<L: Link>(
     index: usize,
     records: u64,
 ) -> Result<Column, FileFault>
-    ensures taken { (o : MeantOpened) (F : List Leaf) (l : Leaf) (x : MeantRecords) (front : List Triplet)
-        → slice_get (leaves.old).items index ≡ Some x
-        → IsLeafRecords (L.shows link.old).held o F l (front ++ rest_of x) x
-        → IfOk result (λ c. (y : MeantRecords) × ((leaves.new).items ≡ slice_set (leaves.old).items index y)
-        × IsTaken (L.shows link.old).held o F l front records x y (column_view c)) }
-    ensures reads { (o : MeantOpened) (F : List Leaf) (l : Leaf) (x : MeantRecords) (front : List Triplet)
-        → slice_get (leaves.old).items index ≡ Some x
-        → IsLeafRecords (L.shows link.old).held o F l (front ++ rest_of x) x
-        → ReadsLeaf o F l result (L.shows link.old) (L.shows link.new) }
+    ensures taken { OverTakenAt (L.shows link.old) (leaves.old).items index (λ o F l x front. IfOk result
+        (IsTakenAt (L.shows link.old).held o F l front records x index leaves.old leaves.new)) }
+    ensures reads { OverTakenAt (L.shows link.old) (leaves.old).items index (λ o F l x front.
+        ReadsLeaf o F l result (L.shows link.old) (L.shows link.new)) }
 {
     match leaves.get_mut(index) {
         Some(leaf) => leaf.take(alloc, link, records),
@@ -76,13 +66,11 @@ pub(crate) fn take_slice<L: Link>(
     leaves: &mut Vec<LeafRecords<'_>>,
     records: u64,
 ) -> Result<Vec<Column>, FileFault>
-    ensures taken { (o : MeantOpened) (F : List Leaf) (R : List Node)
-        → AreBehind (L.shows link.old).held o F R (leaves.old).items
-        → IfOk result (λ v. AreTaken (L.shows link.old).held o F R records (length F) (leaves.old).items
-        (leaves.new).items (columns_view v.items)) }
-    ensures reads { (o : MeantOpened) (F : List Leaf) (R : List Node)
-        → AreBehind (L.shows link.old).held o F R (leaves.old).items
-        → ReadsLeaves o F F (λ bytes. IsColumnsFault bytes F) result (L.shows link.old) (L.shows link.new) }
+    ensures taken { OverBehind (L.shows link.old) (leaves.old).items (λ o F R. IfOk result (λ v.
+        AreTaken (L.shows link.old).held o F R records (length F) (leaves.old).items (leaves.new).items
+        (columns_view v.items))) }
+    ensures reads { OverBehind (L.shows link.old) (leaves.old).items (λ o F R.
+        ReadsLeaves o F F (λ bytes. IsColumnsFault bytes F) result (L.shows link.old) (L.shows link.new)) }
 {
     let mut columns = Vec::new(alloc);
     'leaves: for index in 0..leaves.len() {

@@ -4,11 +4,9 @@ ghost use Rattle.std.specs.Prelude.{◌≡◌, ◌≤◌, [], ◌∷◌, map, If
 ghost use Rattle.dr_nested.specs.Views.{fields_view};
 ghost use Rattle.dr_nested.specs.SchemaView.{schema_view};
 ghost use Rattle.dr_nested.specs.PathView.{path_view};
-ghost use Rattle.dr_table.specs.Views.{table_view};
-ghost use Rattle.dr_reading.specs.Scan.{copies_from};
 ghost use Rattle.dr_tablets.specs.FileRecords.{AreLeavesOf};
 ghost use Rattle.dr_tablets.specs.Asked.{AsksForTablets};
-ghost use Rattle.dr_dump.specs.Printed.{IsPrintedAs};
+ghost use Rattle.dr_dump.specs.Printed.{IsPrintedAs, copies_in};
 
 use crate::file_lines::push_file;
 use dr_file::FileFault;
@@ -41,11 +39,10 @@ pub(crate) fn push_tablet<L: Link>(
 ) -> Result<TabletLines, NoMemory>
     requires leaves { AreLeavesOf (fields_view (table.now).schema.fields.items) (map path_view fields.now) }
     ensures read { IfOk result (IsPrintedAs (schema_view (table.now).schema) (map path_view fields.now)
-        (L.shows link.old) (L.shows link.new) (copies_from (table_view table.now).leaves tablet 0 (table.now).copies)
-        (string_bytes text.old) (string_bytes text.new)) }
-    ensures asks { AsksForTablets (map path_view fields.now)
-        (copies_from (table_view table.now).leaves tablet 0 (table.now).copies ∷ []) (L.shows link.old)
-        (L.shows link.new) }
+        (L.shows link.old) (L.shows link.new) (copies_in table.now tablet) (string_bytes text.old)
+        (string_bytes text.new)) }
+    ensures asks { AsksForTablets (map path_view fields.now) (copies_in table.now tablet ∷ [])
+        (L.shows link.old) (L.shows link.new) }
     ensures same { (L.shows link.new).held ≡ (L.shows link.old).held }
     ensures never_falls { (L.shows link.old).faults ≤ (L.shows link.new).faults }
     ensures stays_steady { IsTrue (L.shows link.old).is_steady → IsTrue (L.shows link.new).is_steady }

@@ -4,10 +4,10 @@ ghost use Rattle.std.specs.Prelude.{◌≡◌, ◌≢◌, ◌≤◌, ◌<◌, �
 ghost use Rattle.dr_meaning.specs.JsonRecord.{record_of_line};
 ghost use Rattle.dr_nested.specs.Views.{fields_view};
 ghost use Rattle.dr_json.specs.Parts.{line_fields};
-ghost use Rattle.dr_striper.specs.Stripers.{striped, striped_leaves, striped_paths};
+ghost use Rattle.dr_striper.specs.Stripers.{striped, striped_leaves};
 ghost use Rattle.dr_lines.specs.Cutting.{rest_of, fault_of as line_fault_of, IsEnd};
 ghost use Rattle.dr_input.specs.Stops.{ReadsLine, NextStops, line_fault_in};
-ghost use Rattle.dr_input.specs.Striped.{TakesRecords, StripesLine, StripesNext};
+ghost use Rattle.dr_input.specs.Striped.{TakesRecords, StripesBytes, GainsNext, ReadsNext};
 ghost use Rattle.dr_input.specs.Records.{fields_read, fields_of, most_of, number_of, fault_of, left_of};
 
 use crate::fault::{InputFault, LineProblem};
@@ -52,9 +52,8 @@ fn stripe_line(
     striper: &mut Striper<'_>,
 ) -> Result<(), InputFault>
     requires fits { TakesRecords (fields_view (schema.now).fields.items) (striped_leaves striper.old) }
-    ensures record { StripesLine (fields_view (schema.now).fields.items)
-        (record_of_line (fields_view (schema.now).fields.items) line.now) number
-        (striped_paths striper.old) (striped striper.old) (striped striper.new) result }
+    ensures record { StripesBytes (fields_view (schema.now).fields.items) line.now number striper.old striper.new
+        result }
     ensures leaves { striped_leaves striper.new ≡ striped_leaves striper.old }
 {
     let record = read_record(alloc, schema, line, scratch, number)?;
@@ -88,9 +87,9 @@ fn stripe_next_line<S: Source>(
     requires going { line_fault_of lines.old ≡ None }
     requires few { number < 2 ^ 63 }
     requires fits { TakesRecords (fields_read reader.old) (striped_leaves striper.old) }
-    ensures record { IfOk result (λ more. more ≡ true → StripesNext (fields_read reader.old) most number
+    ensures record { IfOk result (λ more. more ≡ true → GainsNext (fields_read reader.old) most number
         (rest_of lines.old (S.shows source.old).left) (rest_of lines.new (S.shows source.new).left)
-        (striped_paths striper.old) (striped striper.old) (striped striper.new)) }
+        striper.old striper.new) }
     ensures within { IfOk result (λ more. more ≡ true → number + 1 ≤ most) }
     ensures end { IfOk result (λ more. more ≡ false
         → IsEnd (rest_of lines.old (S.shows source.old).left) (rest_of lines.new (S.shows source.new).left)) }
@@ -163,9 +162,8 @@ impl<'s> Records<'s> {
         striper: &mut Striper<'_>,
     ) -> Result<bool, InputFault>
         requires fits { TakesRecords (fields_of self.old) (striped_leaves striper.old) }
-        ensures record { IfOk result (λ more. more ≡ true → StripesNext (fields_of self.old) (most_of self.old)
-            (number_of self.old) (left_of self.old (S.shows source.old).left) (left_of self.new (S.shows
-            source.new).left) (striped_paths striper.old) (striped striper.old) (striped striper.new)) }
+        ensures record { IfOk result (λ more. more ≡ true → ReadsNext self.old self.new
+            (S.shows source.old).left (S.shows source.new).left striper.old striper.new) }
         ensures counts { IfOk result (λ more. more ≡ true → number_of self.new ≡ number_of self.old + 1) }
         ensures end { IfOk result (λ more. more ≡ false
             → IsEnd (left_of self.old (S.shows source.old).left) (left_of self.new (S.shows source.new).left)) }

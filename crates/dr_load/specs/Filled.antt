@@ -10,6 +10,9 @@ use Rattle.dr_formats.specs.WritingLaws.{is_limited}
 use Rattle.dr_lines.specs.Cutting.{BeginsLine}
 use Rattle.dr_levels.specs.Views.{columns_view}
 use Rattle.dr_load.specs.declared.filled.Filled.{Filled}
+use Rattle.dr_load.specs.declared.plan.Plan.{Plan}
+use Rattle.dr_load.specs.Plans.{plan_view}
+use Rattle.dr_write.specs.Files.{HaveColumns}
 use Rattle.dr_input.specs.Taken.{WhereTold, HasTaken}
 
 -- behind so many lines, the records of these columns were taken of what was left
@@ -32,3 +35,7 @@ RefusesWithin fs most number rows left e =
 -- behind so many lines, the source failed: fewer records than this were taken of what was left, and of the line behind them no more than a part was read
 abbrev pub FailsWithin : Fields → ℕ → ℕ → ℕ → Option (List ℕ) → Option (List ℕ) → Type 0
 FailsWithin fs most number rows before now = (R : List Node) × (left : Option (List ℕ)) × (length R < rows) × HasTaken fs most number R before left × BeginsLine left now
+
+-- what is said of the records whose columns a tablet's are, so many as it has
+abbrev pub OverFilled : Plan → Filled → (List Node → Type 0) → Type 0
+OverFilled plan f says = (R : List Node) → HaveColumns (plan_view plan).schema R (columns_view f.columns.items) → length R ≡ f.records → says R

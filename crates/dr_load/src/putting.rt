@@ -3,10 +3,10 @@
 ghost use Rattle.std.specs.Prelude.{◌≡◌, ◌≢◌, ◌+◌, ◌≤◌, List, length, IsTrue, IfOk, IfErr, OnOk, Err, None};
 ghost use Rattle.dr_meaning.specs.Record.{Node};
 ghost use Rattle.dr_formats.specs.Loading.{tablet_puts, puts_from};
-ghost use Rattle.dr_levels.specs.Views.{columns_view};
-ghost use Rattle.dr_write.specs.Files.{AreColumnsFor, HaveColumns};
+ghost use Rattle.dr_write.specs.Files.{AreColumnsFor};
 ghost use Rattle.dr_outside.specs.Faults.{raised};
 ghost use Rattle.dr_load.specs.Faults.{refusal_of};
+ghost use Rattle.dr_load.specs.Filled.{OverFilled};
 ghost use Rattle.dr_load.specs.Plans.{plan_view};
 ghost use Rattle.dr_load.specs.Puts.{HasPut};
 ghost use Rattle.dr_load.specs.Loads.{StopsPutting, last_tablets};
@@ -29,13 +29,10 @@ pub(crate) fn put_tablet<K: Keeper>(
     filled: &Filled,
 ) -> Result<(), LoadFault>
     requires { AreColumnsFor (plan_view plan.now).schema (filled.now).columns.items }
-    ensures put { (R : List Node) → HaveColumns (plan_view plan.now).schema R (columns_view (filled.now).columns.items)
-        → length R ≡ (filled.now).records → OnOk result
-        (HasPut (tablet_puts (plan_view plan.now) tablet R) (K.shows keeper.old) (K.shows keeper.new)) }
-    ensures stops { (R : List Node) → HaveColumns (plan_view plan.now).schema R
-        (columns_view (filled.now).columns.items) → length R ≡ (filled.now).records
-        → IfErr result (StopsPutting (tablet_puts (plan_view plan.now) tablet R) (K.shows keeper.old)
-        (K.shows keeper.new)) }
+    ensures put { OverFilled plan.now filled.now (λ R.
+        OnOk result (HasPut (tablet_puts (plan_view plan.now) tablet R) (K.shows keeper.old) (K.shows keeper.new))) }
+    ensures stops { OverFilled plan.now filled.now (λ R. IfErr result
+        (StopsPutting (tablet_puts (plan_view plan.now) tablet R) (K.shows keeper.old) (K.shows keeper.new))) }
     ensures cause { result ≡ Err LoadFault.KeepFault → (K.shows keeper.new).faults
         ≡ raised (K.shows keeper.old).faults }
     ensures calm { result ≢ Err LoadFault.KeepFault → (K.shows keeper.new).faults ≡ (K.shows keeper.old).faults }
@@ -69,14 +66,12 @@ pub(crate) fn put_last<K: Keeper>(
     requires columns { AreColumnsFor (plan_view plan.now).schema (filled.now).columns.items }
     requires few_tablets { loaded.tablets ≤ 4096 }
     requires few_records { loaded.records ≤ 4096000000 }
-    ensures put { (R : List Node) → HaveColumns (plan_view plan.now).schema R (columns_view (filled.now).columns.items)
-        → length R ≡ (filled.now).records → OnOk result
-        (HasPut (puts_from (plan_view plan.now) loaded.tablets (last_tablets loaded.tablets R)) (K.shows keeper.old)
-        (K.shows keeper.new)) }
-    ensures stops { (R : List Node) → HaveColumns (plan_view plan.now).schema R
-        (columns_view (filled.now).columns.items) → length R ≡ (filled.now).records
-        → IfErr result (StopsPutting (puts_from (plan_view plan.now) loaded.tablets (last_tablets loaded.tablets R))
-        (K.shows keeper.old) (K.shows keeper.new)) }
+    ensures put { OverFilled plan.now filled.now (λ R. OnOk result (HasPut
+        (puts_from (plan_view plan.now) loaded.tablets (last_tablets loaded.tablets R))
+        (K.shows keeper.old) (K.shows keeper.new))) }
+    ensures stops { OverFilled plan.now filled.now (λ R. IfErr result (StopsPutting
+        (puts_from (plan_view plan.now) loaded.tablets (last_tablets loaded.tablets R))
+        (K.shows keeper.old) (K.shows keeper.new))) }
     ensures tablets { (R : List Node) → length R ≡ (filled.now).records
         → IfOk result (λ l. l.tablets ≡ loaded.tablets + length (last_tablets loaded.tablets R)) }
     ensures records { IfOk result (λ l. l.records ≡ loaded.records + (filled.now).records) }

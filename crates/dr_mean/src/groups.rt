@@ -1,20 +1,10 @@
 //! The groups of records.
 
-ghost use Rattle.std.specs.Prelude.{◌≡◌, map, true, Some, IfOk, OnOk};
-ghost use Rattle.dr_meaning.specs.Record.{project as meant_project};
-ghost use Rattle.dr_nested.specs.PathView.{path_view, paths_view};
+ghost use Rattle.std.specs.Prelude.{◌≡◌, Some, IfOk, OnOk};
 ghost use Rattle.dr_nested.specs.Views.{node_view};
-ghost use Rattle.dr_partials.specs.Putting.{put_all};
-ghost use Rattle.dr_plan.specs.Fitting.{aggregate_fits, expr_fits};
-ghost use Rattle.dr_plan.specs.Planned.{Planned, planned_query};
-ghost use Rattle.dr_plan.specs.Views.{aggregate_view, expr_view};
-ghost use Rattle.dr_group.specs.Partials.{partial_view, IsPartialOf};
-ghost use Rattle.dr_rows.specs.Views.{rows_view};
-ghost use Rattle.dr_mean.specs.GroupLaws.{record_puts, term_puts};
-ghost use Rattle.dr_mean.specs.GroupPuts.{AreKeyRows, AreTyped, aggregate_puts, expression_puts, projections, records_puts};
-ghost use Rattle.dr_mean.specs.Lines.{plan_kept};
-ghost use Rattle.dr_mean.specs.RowsOf.{IsTyped};
-ghost use Rattle.dr_mean.specs.Takings.{key_paths};
+ghost use Rattle.dr_plan.specs.Planned.{Planned};
+ghost use Rattle.dr_group.specs.Partials.{IsPartialOf, HasTaken};
+ghost use Rattle.dr_mean.specs.GroupPuts.{PutsValues, PutsAggregate, PutsAggregates, PutsOfRecord, left_put, record_put, records_put, projection, HaveTypes};
 
 use crate::chains::{expression_chain, keys_chain};
 use crate::grouping::Grouping;
@@ -50,13 +40,7 @@ fn put_values(
     whole: &Node,
     partial: &mut Partial,
 ) -> Result<(), NoMemory>
-    ensures puts { OnOk result ((p : Planned) → IsPartialOf p partial.old
-        → IsTyped groups.entry.leaves.now (node_view whole.now)
-        → expr_fits (map path_view groups.entry.leaves.now) expression.now ≡ true
-        → partial_view partial.new ≡ put_all (planned_query p) (expression_puts
-        (key_paths (map path_view groups.entry.leaves.now) groups.entry.keys.now) number
-        (expr_view (map path_view groups.entry.leaves.now)
-        expression.now) (node_view whole.now)) (partial_view partial.old)) }
+    ensures puts { OnOk result (PutsValues groups.entry number expression.now whole.now partial.old partial.new) }
     ensures of_plan { (p : Planned) → IsPartialOf p partial.old → IsPartialOf p partial.new }
 {
     let chain = longer(
@@ -83,14 +67,8 @@ fn put_aggregate(
     whole: &Node,
     partial: &mut Partial,
 ) -> Result<(), NoMemory>
-    ensures puts { OnOk result ((p : Planned) → IsPartialOf p partial.old
-        → IsTyped groups.entry.leaves.now (node_view whole.now)
-        → aggregate_fits (map path_view groups.entry.leaves.now) aggregate.now ≡ true
-        → AreKeyRows groups.entry.leaves.now groups.entry.keys.now (node_view whole.now) (rows_view key_rows.now)
-        → partial_view partial.new ≡ put_all (planned_query p) (aggregate_puts
-        (key_paths (map path_view groups.entry.leaves.now) groups.entry.keys.now) place
-        (aggregate_view (map path_view groups.entry.leaves.now)
-        aggregate.now) (node_view whole.now)) (partial_view partial.old)) }
+    ensures puts { OnOk result (PutsAggregate groups.entry place aggregate.now key_rows.now whole.now
+        partial.old partial.new) }
     ensures of_plan { (p : Planned) → IsPartialOf p partial.old → IsPartialOf p partial.new }
 {
     let number = number_of(place)?;
@@ -110,13 +88,7 @@ fn put_aggregates(
     whole: &Node,
     partial: &mut Partial,
 ) -> Result<(), NoMemory>
-    ensures puts { OnOk result ((p : Planned) → IsPartialOf p partial.old
-        → IsTyped groups.entry.leaves.now (node_view whole.now)
-        → AreKeyRows groups.entry.leaves.now groups.entry.keys.now (node_view whole.now) (rows_view key_rows.now)
-        → partial_view partial.new ≡ put_all (planned_query p) (term_puts
-        (key_paths (map path_view groups.entry.leaves.now) groups.entry.keys.now) 0
-        (map (aggregate_view (map path_view groups.entry.leaves.now))
-        groups.entry.aggregates.now) (node_view whole.now)) (partial_view partial.old)) }
+    ensures puts { OnOk result (PutsAggregates groups.entry key_rows.now whole.now partial.old partial.new) }
     ensures of_plan { (p : Planned) → IsPartialOf p partial.old → IsPartialOf p partial.new }
 {
     let mut place = 0;
@@ -134,12 +106,8 @@ fn put_whole(
     whole: &Node,
     partial: &mut Partial,
 ) -> Result<(), NoMemory>
-    ensures puts { OnOk result ((p : Planned) → IsPartialOf p partial.old
-        → IsTyped groups.entry.leaves.now (node_view whole.now)
-        → partial_view partial.new ≡ put_all (planned_query p) (record_puts
-        (key_paths (map path_view groups.entry.leaves.now) groups.entry.keys.now)
-        (map (aggregate_view (map path_view groups.entry.leaves.now))
-        groups.entry.aggregates.now) (Some (node_view whole.now))) (partial_view partial.old)) }
+    ensures puts { OnOk result (PutsOfRecord groups.entry (node_view whole.now)
+        (left_put groups.entry (Some (node_view whole.now))) partial.old partial.new) }
     ensures of_plan { (p : Planned) → IsPartialOf p partial.old → IsPartialOf p partial.new }
 {
     let chain = keys_chain(groups.leaves, groups.keys);
@@ -155,13 +123,8 @@ fn put_kept(
     whole: &mut Node,
     partial: &mut Partial,
 ) -> Result<(), NoMemory>
-    ensures puts { OnOk result ((p : Planned) → IsPartialOf p partial.old
-        → IsTyped groups.entry.leaves.now (node_view whole.old)
-        → partial_view partial.new ≡ put_all (planned_query p) (record_puts
-        (key_paths (map path_view groups.entry.leaves.now) groups.entry.keys.now)
-        (map (aggregate_view (map path_view groups.entry.leaves.now))
-        groups.entry.aggregates.now) (plan_kept groups.entry.plan.now (node_view whole.old)))
-        (partial_view partial.old)) }
+    ensures puts { OnOk result (PutsOfRecord groups.entry (node_view whole.old)
+        (record_put groups.entry (node_view whole.old)) partial.old partial.new) }
     ensures of_plan { (p : Planned) → IsPartialOf p partial.old → IsPartialOf p partial.new }
 {
     if !keep(alloc, groups.plan, whole)? {
@@ -177,13 +140,8 @@ fn put_record(
     whole: &Node,
     partial: &mut Partial,
 ) -> Result<(), NoMemory>
-    ensures puts { OnOk result ((p : Planned) → IsPartialOf p partial.old
-        → IsTyped groups.entry.leaves.now (meant_project (paths_view groups.entry.leaves.now) (node_view whole.now))
-        → partial_view partial.new ≡ put_all (planned_query p) (record_puts
-        (key_paths (map path_view groups.entry.leaves.now) groups.entry.keys.now)
-        (map (aggregate_view (map path_view groups.entry.leaves.now)) groups.entry.aggregates.now)
-        (plan_kept groups.entry.plan.now (meant_project (paths_view groups.entry.leaves.now)
-        (node_view whole.now)))) (partial_view partial.old)) }
+    ensures puts { OnOk result (PutsOfRecord groups.entry (projection groups.entry whole.now)
+        (record_put groups.entry (projection groups.entry whole.now)) partial.old partial.new) }
     ensures of_plan { (p : Planned) → IsPartialOf p partial.old → IsPartialOf p partial.new }
 {
     let mut projected = project(alloc, groups.leaves, whole)?;
@@ -199,13 +157,8 @@ pub fn put_records(
     records: &[Node],
     partial: &mut Partial,
 ) -> Result<(), NoMemory>
-    ensures puts { OnOk result ((p : Planned) → IsPartialOf p partial.old
-        → AreTyped groups.entry.leaves.now (projections groups.entry.leaves.now records.now)
-        → partial_view partial.new ≡ put_all (planned_query p) (records_puts groups.entry.plan.now
-        (key_paths (map path_view groups.entry.leaves.now) groups.entry.keys.now)
-        (map (aggregate_view (map path_view groups.entry.leaves.now))
-        groups.entry.aggregates.now) (projections groups.entry.leaves.now records.now))
-        (partial_view partial.old)) }
+    ensures puts { OnOk result ((p : Planned) → IsPartialOf p partial.old → HaveTypes groups.entry records.now
+        → HasTaken p (records_put groups.entry records.now) partial.old partial.new) }
     ensures of_plan { (p : Planned) → IsPartialOf p partial.old → IsPartialOf p partial.new }
 {
     'records: for whole in records {

@@ -1,17 +1,12 @@
 //! What the condition of a plan leaves of a record.
 
-ghost use Rattle.std.specs.Prelude.{◌≡◌, List, map, true, IfOk};
-ghost use Rattle.dr_meaning.specs.Kept as kept_meaning;
-ghost use Rattle.dr_meaning.specs.Path.{Step as MeantStep};
-ghost use Rattle.dr_meaning.specs.Record as record_tree;
+ghost use Rattle.std.specs.Prelude.{◌≡◌, map, true, IfOk};
 ghost use Rattle.dr_meaning.specs.Rows as rows_meaning;
 ghost use Rattle.dr_nested.specs.Views.{node_view};
-ghost use Rattle.dr_nested.specs.PathView.{step_view, paths_view};
-ghost use Rattle.dr_rows.specs.Known.{known};
+ghost use Rattle.dr_nested.specs.PathView.{step_view};
 ghost use Rattle.dr_rows.specs.Pruning.{kept_if};
-ghost use Rattle.dr_rows.specs.Views.{rows_view};
 ghost use Rattle.dr_scalar.specs.Tests.{all_true};
-ghost use Rattle.dr_mean.specs.RowsOf.{IsTyped};
+ghost use Rattle.dr_mean.specs.RowsOf.{IsTyped, OverRows};
 ghost use Rattle.dr_mean.specs.Condition.{plan_kept, plan_tests};
 
 use crate::chains::tests_chain;
@@ -24,9 +19,8 @@ use std::alloc::Global;
 
 /// The answers of a plan's condition for rows, in order.
 fn answer_rows(alloc: Global, plan: &Plan, rows: &Rows<'_>) -> Result<Vec<bool>, NoMemory>
-    ensures { IfOk result (λ v. (chain : List MeantStep) (n : record_tree.Node) → IsTyped (plan.now).leaves.items n
-        → rows_view rows.now ≡ map (known (paths_view (plan.now).leaves.items) chain) (rows_meaning.rows chain n)
-        → v.items ≡ map (all_true (plan_tests plan.now)) (rows_meaning.rows chain n)) }
+    ensures { IfOk result (λ v. OverRows (plan.now).leaves.items rows.now (λ chain n.
+        v.items ≡ map (all_true (plan_tests plan.now)) (rows_meaning.rows chain n))) }
 {
     let mut answers = Vec::with_capacity(alloc, rows.len())?;
     'rows: for number in 0..rows.len() {

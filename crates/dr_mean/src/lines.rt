@@ -1,22 +1,16 @@
 //! The objects of a record query's result.
 
-ghost use Rattle.std.specs.Prelude.{◌≡◌, ◌++◌, ◌∷◌, [], length, map, is_some, if◌then◌else◌, IfOk, OnOk};
-ghost use Rattle.std.specs.List.{filter_map};
+ghost use Rattle.std.specs.Prelude.{◌≡◌, ◌∷◌, [], length, is_some, if◌then◌else◌, IfOk, OnOk};
 ghost use Rattle.dr_meaning.specs.Query.{meaning};
-ghost use Rattle.dr_meaning.specs.Record.{project as meant_project};
 ghost use Rattle.dr_nested.specs.Views.{node_view};
 ghost use Rattle.dr_plan.specs.declared.plan.Plan.{Plan as MeantPlan};
-ghost use Rattle.dr_plan.specs.Objects.{object_view, tree_object};
 ghost use Rattle.dr_plan.specs.Planned.{plan_view};
-ghost use Rattle.dr_cells.specs.Results.{result_cells};
 ghost use Rattle.dr_cells.specs.Rows.{rows_shape, rows_view};
 ghost use Rattle.dr_cells.specs.Shapes.{plan_shape};
-ghost use Rattle.dr_cells.specs.Views.{cells_view};
 ghost use Rattle.dr_plan.specs.declared.plan.Selection.TheVariants.{Objects};
 ghost use Rattle.dr_mean.specs.Answers.{Answers};
-ghost use Rattle.dr_mean.specs.Lines.{kept_cells, plan_kept, plan_projections, Selects};
-ghost use Rattle.dr_mean.specs.ObjectCells.{items_view};
-ghost use Rattle.dr_nested.specs.PathView.{paths_view};
+ghost use Rattle.dr_mean.specs.Lines.{plan_kept, SelectsObject, left_cells, record_left, records_left, objects_left, SelectsRecords};
+ghost use Rattle.dr_mean.specs.ObjectCells.{CellsJoin};
 
 use crate::items::Items;
 use crate::keeping::keep;
@@ -36,10 +30,8 @@ fn push_whole(
     whole: &Node,
     cells: &mut Cells,
 ) -> Result<(), NoMemory>
-    ensures { OnOk result ((plan : MeantPlan)
-        → Selects plan items.entry.leaves.now items.entry.items.now (object_view object.now) (node_view whole.now ∷ [])
-        → cells_view cells.new ≡ cells_view cells.old ++ kept_cells (items_view items.entry.leaves.now
-        items.entry.items.now) (object_view object.now) (Some (node_view whole.now))) }
+    ensures { OnOk result ((plan : MeantPlan) → SelectsObject plan items.entry object.now (node_view whole.now ∷ [])
+        → CellsJoin (left_cells items.entry object.now (Some (node_view whole.now))) cells.old cells.new) }
 {
     let rows = rows_of(alloc, items.leaves, &[], whole)?;
     push_object(alloc, items, object, 0, rows.row(0), cells)
@@ -54,13 +46,11 @@ fn push_kept(
     whole: &mut Node,
     cells: &mut Cells,
 ) -> Result<bool, NoMemory>
-    ensures kept { IfOk result (λ b. Selects plan.now items.entry.leaves.now items.entry.items.now
-        (object_view object.now) (node_view whole.old ∷ [])
+    ensures kept { IfOk result (λ b. SelectsObject plan.now items.entry object.now (node_view whole.old ∷ [])
         → b ≡ is_some (plan_kept plan.now (node_view whole.old))) }
-    ensures cells { OnOk result (Selects plan.now items.entry.leaves.now items.entry.items.now (object_view object.now)
-        (node_view whole.old ∷ [])
-        → cells_view cells.new ≡ cells_view cells.old ++ kept_cells (items_view items.entry.leaves.now
-        items.entry.items.now) (object_view object.now) (plan_kept plan.now (node_view whole.old))) }
+    ensures cells { OnOk result (SelectsObject plan.now items.entry object.now (node_view whole.old ∷ [])
+        → CellsJoin (left_cells items.entry object.now (plan_kept plan.now (node_view whole.old)))
+        cells.old cells.new) }
 {
     if !keep(alloc, plan, whole)? {
         return Ok(false);
@@ -78,14 +68,10 @@ fn push_record(
     whole: &Node,
     cells: &mut Cells,
 ) -> Result<bool, NoMemory>
-    ensures kept { IfOk result (λ b. Selects plan.now items.entry.leaves.now items.entry.items.now
-        (object_view object.now) (plan_projections plan.now (whole.now ∷ []))
-        → b ≡ is_some (plan_kept plan.now (meant_project (paths_view (plan.now).leaves.items) (node_view whole.now)))) }
-    ensures cells { OnOk result (Selects plan.now items.entry.leaves.now items.entry.items.now (object_view object.now)
-        (plan_projections plan.now (whole.now ∷ []))
-        → cells_view cells.new ≡ cells_view cells.old ++ kept_cells (items_view items.entry.leaves.now
-        items.entry.items.now) (object_view object.now)
-        (plan_kept plan.now (meant_project (paths_view (plan.now).leaves.items) (node_view whole.now)))) }
+    ensures kept { IfOk result (λ b. SelectsRecords plan.now items.entry object.now (whole.now ∷ [])
+        → b ≡ is_some (record_left plan.now whole.now)) }
+    ensures cells { OnOk result (SelectsRecords plan.now items.entry object.now (whole.now ∷ [])
+        → CellsJoin (left_cells items.entry object.now (record_left plan.now whole.now)) cells.old cells.new) }
 {
     let mut projected = project(alloc, &plan.leaves, whole)?;
     push_kept(alloc, plan, items, object, &mut projected, cells)
@@ -107,14 +93,10 @@ fn push_records(
     records: &[Node],
     cells: &mut Cells,
 ) -> Result<u64, NoMemory>
-    ensures count { IfOk result (λ n. Selects plan.now items.entry.leaves.now items.entry.items.now
-        (object_view object.now) (plan_projections plan.now records.now)
-        → n ≡ length (filter_map (plan_kept plan.now) (plan_projections plan.now records.now))) }
-    ensures cells { OnOk result (Selects plan.now items.entry.leaves.now items.entry.items.now (object_view object.now)
-        (plan_projections plan.now records.now)
-        → cells_view cells.new ≡ cells_view cells.old ++ result_cells (map
-        (tree_object (items_view items.entry.leaves.now items.entry.items.now) (object_view object.now))
-        (filter_map (plan_kept plan.now) (plan_projections plan.now records.now)))) }
+    ensures count { IfOk result (λ n. SelectsRecords plan.now items.entry object.now records.now
+        → n ≡ length (records_left plan.now records.now)) }
+    ensures cells { OnOk result (SelectsRecords plan.now items.entry object.now records.now
+        → CellsJoin (objects_left plan.now items.entry object.now records.now) cells.old cells.new) }
 {
     let mut count = 0;
     'records: for whole in records {

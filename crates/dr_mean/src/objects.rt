@@ -1,23 +1,13 @@
 //! The objects of a record query, as cells of a result.
 
-ghost use Rattle.std.specs.Prelude.{◌≡◌, ◌++◌, ◌∷◌, [], List, filter, length, map, true, is_some, IfOk, OnOk};
-ghost use Rattle.std.specs.List.{flat_map, slice_get};
-ghost use Rattle.dr_meaning.specs.Path.{Step as MeantStep, begins_with};
-ghost use Rattle.dr_meaning.specs.Query.{RecordItem as MeantItem, term_value};
-ghost use Rattle.dr_meaning.specs.Record as record_tree;
-ghost use Rattle.dr_meaning.specs.Rows as rows_meaning;
-ghost use Rattle.dr_nested.specs.PathView.{path_view, step_view, paths_view};
-ghost use Rattle.dr_plan.specs.Fitting.{record_term_fits};
-ghost use Rattle.dr_plan.specs.Objects.{object_view, tree_lists};
-ghost use Rattle.dr_plan.specs.Views.{record_term_view};
-ghost use Rattle.dr_cells.specs.PlanShapes.{plan_list_view, plan_lists_view};
-ghost use Rattle.dr_cells.specs.Results.{inner_cells, own_counts, value_cell};
-ghost use Rattle.dr_cells.specs.Views.{cells_view};
-ghost use Rattle.dr_rows.specs.Known.{Known, known};
-ghost use Rattle.dr_rows.specs.Views.{row_view, rows_view, rows_width};
-ghost use Rattle.dr_mean.specs.Nested.{are_nested, is_nested, item_is_below, items_are_below, term_is_below};
-ghost use Rattle.dr_mean.specs.ObjectCells.{instance_cells, item_cells, items_cells, items_view};
-ghost use Rattle.dr_mean.specs.RowsOf.{IsRow};
+ghost use Rattle.std.specs.Prelude.{◌≡◌, List, filter, length, map, true, is_some, IfOk, OnOk};
+ghost use Rattle.dr_meaning.specs.Path.{begins_with};
+ghost use Rattle.dr_meaning.specs.Query.{RecordItem as MeantItem};
+ghost use Rattle.dr_nested.specs.PathView.{step_view};
+ghost use Rattle.dr_rows.specs.Known.{Known};
+ghost use Rattle.dr_rows.specs.Views.{rows_view, rows_width, AreRowsOf};
+ghost use Rattle.dr_mean.specs.ObjectCells.{item_cells, items_cells, TermFits, IsTermBelow, term_cells, items_in, item_in, counts_in, IsNestedIn, AreNestedIn, IsNestedList, object_in, lists_in, list_in, OverItemRow, IsItemBelow, AreItemsBelow, AreListsNested, IsListBelow, CellsJoin};
+ghost use Rattle.dr_mean.specs.RowsOf.{OverRow};
 
 use crate::items::Items;
 use crate::values::{push_aggregate, push_value};
@@ -38,10 +28,9 @@ fn rows_at<'n>(
 ) -> Result<Rows<'n>, NoMemory>
     requires values { length row.values.now ≡ length leaves.now }
     ensures width { IfOk result (λ t. rows_width t ≡ length leaves.now) }
-    ensures rows { IfOk result (λ t. (p : List MeantStep) (whole : record_tree.Node)
-        → IsRow leaves.now p (row_view row.entry) whole → length p ≡ depth
-        → begins_with p (map step_view chain.now) ≡ true → rows_view t ≡ map (known (paths_view leaves.now)
-        (map step_view chain.now)) (rows_meaning.rows (map step_view chain.now) whole)) }
+    ensures rows { IfOk result (λ t. OverRow leaves.now depth row.entry (λ p whole.
+        begins_with p (map step_view chain.now) ≡ true
+        → AreRowsOf leaves.now (map step_view chain.now) whole t)) }
 {
     rows_within(alloc, leaves, chain, depth.min(chain.len()), row)
 }
@@ -56,12 +45,8 @@ fn push_term(
     cells: &mut Cells,
 ) -> Result<(), NoMemory>
     requires values { length row.values.now ≡ length leaves.now }
-    ensures { OnOk result ((p : List MeantStep) (whole : record_tree.Node)
-        → IsRow leaves.now p (row_view row.entry) whole → length p ≡ depth
-        → record_term_fits (map path_view leaves.now) term.now ≡ true → term_is_below p (record_term_view (map path_view
-        leaves.now) term.now) ≡ true
-        → cells_view cells.new ≡ cells_view cells.old ++ value_cell (term_value
-        (record_term_view (map path_view leaves.now) term.now) whole) ∷ []) }
+    ensures { OnOk result (OverRow leaves.now depth row.entry (λ p whole. TermFits leaves.now term.now
+        → IsTermBelow leaves.now term.now p → CellsJoin (term_cells leaves.now term.now whole) cells.old cells.new)) }
 {
     match term {
         RecordTerm::Value(expression) => push_value(alloc, expression, row.values, cells),
@@ -92,11 +77,9 @@ fn push_items(
     cells: &mut Cells,
 ) -> Result<(), NoMemory>
     requires values { length row.values.now ≡ length items.leaves.now }
-    ensures { OnOk result ((p : List MeantStep) (whole : record_tree.Node)
-        → IsRow items.entry.leaves.now p (row_view row.entry) whole → length p ≡ depth
-        → items_are_below (items_view items.entry.leaves.now items.entry.items.now) p places.now ≡ true
-        → cells_view cells.new ≡ cells_view cells.old ++ items_cells (items_view items.entry.leaves.now
-        items.entry.items.now) places.now whole) }
+    ensures { OnOk result (OverItemRow items.entry depth row.entry (λ p whole.
+        AreItemsBelow items.entry places.now p
+        → CellsJoin (items_cells (items_in items.entry) places.now whole) cells.old cells.new)) }
 {
     'places: for place in places {
         push_item(alloc, items, *place as usize, depth, row, cells)?;
@@ -114,11 +97,9 @@ fn push_item(
     cells: &mut Cells,
 ) -> Result<(), NoMemory>
     requires values { length row.values.now ≡ length items.leaves.now }
-    ensures { OnOk result ((p : List MeantStep) (whole : record_tree.Node)
-        → IsRow items.entry.leaves.now p (row_view row.entry) whole → length p ≡ depth
-        → item_is_below p (slice_get (items_view items.entry.leaves.now items.entry.items.now) place) ≡ true
-        → cells_view cells.new ≡ cells_view cells.old ++ item_cells (slice_get (items_view items.entry.leaves.now
-        items.entry.items.now) place) whole) }
+    ensures { OnOk result (OverItemRow items.entry depth row.entry (λ p whole.
+        IsItemBelow items.entry place p
+        → CellsJoin (item_cells (item_in items.entry place) whole) cells.old cells.new)) }
 {
     match items.items.get(place) {
         Some(item) => push_term(alloc, items.leaves, &item.term, depth, row, cells),
@@ -136,11 +117,8 @@ fn push_counts(
     cells: &mut Cells,
 ) -> Result<(), NoMemory>
     requires values { length row.values.now ≡ length leaves.now }
-    ensures { OnOk result ((items : List MeantItem) (p : List MeantStep) (whole : record_tree.Node)
-        → IsRow leaves.now p (row_view row.entry) whole → length p ≡ depth
-        → are_nested items p (plan_lists_view (lists.now).items) ≡ true
-        → cells_view cells.new ≡ cells_view cells.old ++ own_counts (tree_lists items
-        (plan_lists_view (lists.now).items) whole)) }
+    ensures { OnOk result ((items : List MeantItem) → OverRow leaves.now depth row.entry (λ p whole.
+        AreListsNested items lists.now p → CellsJoin (counts_in items lists.now whole) cells.old cells.new)) }
 {
     'lists: for list in lists {
         let rows = rows_at(alloc, leaves, &list.level, depth, row)?;
@@ -163,11 +141,9 @@ pub fn push_object(
     cells: &mut Cells,
 ) -> Result<(), NoMemory>
     requires values { length row.values.now ≡ length items.leaves.now }
-    ensures { OnOk result ((p : List MeantStep) (whole : record_tree.Node)
-        → IsRow items.entry.leaves.now p (row_view row.entry) whole → length p ≡ depth
-        → is_nested (items_view items.entry.leaves.now items.entry.items.now) p (object_view object.now) ≡ true
-        → cells_view cells.new ≡ cells_view cells.old ++ instance_cells (items_view items.entry.leaves.now
-        items.entry.items.now) p (object_view object.now) whole) }
+    ensures { OnOk result (OverItemRow items.entry depth row.entry (λ p whole.
+        IsNestedIn items.entry object.now p
+        → CellsJoin (object_in items.entry object.now p whole) cells.old cells.new)) }
 {
     if row.end.is_none() {
         return Ok(());
@@ -188,12 +164,8 @@ fn push_lists(
     cells: &mut Cells,
 ) -> Result<(), NoMemory>
     requires values { length row.values.now ≡ length items.leaves.now }
-    ensures { OnOk result ((p : List MeantStep) (whole : record_tree.Node)
-        → IsRow items.entry.leaves.now p (row_view row.entry) whole → length p ≡ depth
-        → are_nested (items_view items.entry.leaves.now
-        items.entry.items.now) p (plan_lists_view (lists.now).items) ≡ true
-        → cells_view cells.new ≡ cells_view cells.old ++ inner_cells (tree_lists (items_view items.entry.leaves.now
-        items.entry.items.now) (plan_lists_view (lists.now).items) whole)) }
+    ensures { OnOk result (OverItemRow items.entry depth row.entry (λ p whole.
+        AreNestedIn items.entry lists.now p → CellsJoin (lists_in items.entry lists.now whole) cells.old cells.new)) }
 {
     'lists: for list in lists {
         push_list(alloc, items, list, depth, row, cells)?;
@@ -212,14 +184,8 @@ fn push_list(
     cells: &mut Cells,
 ) -> Result<(), NoMemory>
     requires values { length row.values.now ≡ length items.leaves.now }
-    ensures { OnOk result ((p : List MeantStep) (whole : record_tree.Node)
-        → IsRow items.entry.leaves.now p (row_view row.entry) whole → length p ≡ depth
-        → begins_with p (plan_list_view list.now).level ≡ true
-        → is_nested (items_view items.entry.leaves.now
-        items.entry.items.now) (plan_list_view list.now).level (plan_list_view list.now).object ≡ true
-        → cells_view cells.new ≡ cells_view cells.old ++ flat_map (instance_cells (items_view items.entry.leaves.now
-        items.entry.items.now) (plan_list_view list.now).level (plan_list_view list.now).object)
-        (rows_meaning.rows (plan_list_view list.now).level whole)) }
+    ensures { OnOk result (OverItemRow items.entry depth row.entry (λ p whole. IsListBelow list.now p
+        → IsNestedList items.entry list.now → CellsJoin (list_in items.entry list.now whole) cells.old cells.new)) }
 {
     let rows = rows_at(alloc, items.leaves, &list.level, depth, row)?;
     'rows: for number in 0..rows.len() {

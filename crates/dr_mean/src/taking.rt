@@ -1,21 +1,16 @@
 //! What rows put into groups.
 
-ghost use Rattle.std.specs.Prelude.{◌≡◌, List, map, option_map, true, IfOk, OnOk};
-ghost use Rattle.dr_meaning.specs.Path.{Leaf, Step as MeantStep};
+ghost use Rattle.std.specs.Prelude.{◌≡◌, List, option_map, true, IfOk, OnOk};
+ghost use Rattle.dr_meaning.specs.Path.{Leaf};
 ghost use Rattle.dr_meaning.specs.Record as record_tree;
-ghost use Rattle.dr_meaning.specs.Rows as rows_meaning;
-ghost use Rattle.dr_nested.specs.PathView.{path_view, paths_view};
-ghost use Rattle.dr_partials.specs.Putting.{put, put_all};
-ghost use Rattle.dr_plan.specs.Planned.{Planned, planned_query};
+ghost use Rattle.dr_partials.specs.Putting.{put};
+ghost use Rattle.dr_plan.specs.Planned.{Planned};
 ghost use Rattle.dr_group.specs.Groups.{taken_view};
-ghost use Rattle.dr_group.specs.Partials.{partial_view, IsPartialOf};
-ghost use Rattle.dr_rows.specs.Known.{known};
-ghost use Rattle.dr_rows.specs.Views.{rows_view};
+ghost use Rattle.dr_group.specs.Partials.{IsPartialOf};
 ghost use Rattle.dr_scalar.specs.Slots.{AreValues};
 ghost use Rattle.dr_scalar.specs.Views.{evaluated_view};
 ghost use Rattle.dr_levels.specs.Views.{lent_value};
-ghost use Rattle.dr_mean.specs.RowsOf.{IsTyped};
-ghost use Rattle.dr_mean.specs.Takings.{taking_fits, value_taken, taken_with, put_of};
+ghost use Rattle.dr_mean.specs.Takings.{taking_fits, value_taken, taken_with, PutsRow, PutsRows};
 
 use crate::grouping::Grouping;
 use crate::keys::key_of;
@@ -86,11 +81,7 @@ fn put_row<'n>(
     key: &mut Vec<Option<ValueRef<'n>>>,
     partial: &mut Partial,
 ) -> Result<(), NoMemory>
-    ensures puts { OnOk result ((p : Planned) (r : record_tree.Node) → IsPartialOf p partial.old
-        → AreValues (map path_view groups.entry.leaves.now) row.now r
-        → taking_fits (map path_view groups.entry.leaves.now) taking.entry ≡ true
-        → partial_view partial.new ≡ put (planned_query p) (put_of (map path_view groups.entry.leaves.now)
-        groups.entry.keys.now taking.entry r) (partial_view partial.old)) }
+    ensures puts { OnOk result (PutsRow groups.entry taking.entry row.now partial.old partial.new) }
     ensures of_plan { (p : Planned) → IsPartialOf p partial.old → IsPartialOf p partial.new }
 {
     key_of(groups.keys, row, key)?;
@@ -108,12 +99,7 @@ pub fn put_rows(
     rows: &Rows<'_>,
     partial: &mut Partial,
 ) -> Result<(), NoMemory>
-    ensures puts { OnOk result ((p : Planned) (chain : List MeantStep) (whole : record_tree.Node)
-        → IsPartialOf p partial.old → IsTyped groups.entry.leaves.now whole
-        → taking_fits (map path_view groups.entry.leaves.now) taking.entry ≡ true
-        → rows_view rows.now ≡ map (known (paths_view groups.entry.leaves.now) chain) (rows_meaning.rows chain whole)
-        → partial_view partial.new ≡ put_all (planned_query p) (map (put_of (map path_view groups.entry.leaves.now)
-        groups.entry.keys.now taking.entry) (rows_meaning.rows chain whole)) (partial_view partial.old)) }
+    ensures puts { OnOk result (PutsRows groups.entry taking.entry rows.now partial.old partial.new) }
     ensures of_plan { (p : Planned) → IsPartialOf p partial.old → IsPartialOf p partial.new }
 {
     let mut key = Vec::new(alloc);

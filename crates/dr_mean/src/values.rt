@@ -1,22 +1,13 @@
 //! The values of a plan's expressions and aggregates, as cells of a result.
 
-ghost use Rattle.std.specs.Prelude.{◌≡◌, ◌++◌, ◌∷◌, [], List, length, map, true, IfOk, OnOk};
+ghost use Rattle.std.specs.Prelude.{◌≡◌, ◌∷◌, [], length, IfOk, OnOk};
 ghost use Rattle.dr_meaning.specs.Expression.{evaluate, expression_chain};
-ghost use Rattle.dr_meaning.specs.Path.{Leaf, Step as MeantStep, begins_with};
-ghost use Rattle.dr_meaning.specs.Query.{over_rows};
-ghost use Rattle.dr_nested.specs.PathView.{path_view, paths_view};
-ghost use Rattle.dr_meaning.specs.Record as record_tree;
-ghost use Rattle.dr_meaning.specs.Rows as rows_meaning;
-ghost use Rattle.dr_partials.specs.Accumulators.{accumulated, result_of, take_value};
-ghost use Rattle.dr_plan.specs.Fitting.{expr_fits};
-ghost use Rattle.dr_plan.specs.Views.{expr_view, fold_view};
+ghost use Rattle.dr_partials.specs.Accumulators.{result_of, take_value};
+ghost use Rattle.dr_plan.specs.Views.{expr_view};
 ghost use Rattle.dr_cells.specs.Results.{value_cell};
-ghost use Rattle.dr_cells.specs.Views.{cells_view};
 ghost use Rattle.dr_group.specs.Views.{accumulator_view};
-ghost use Rattle.dr_rows.specs.Known.{known};
-ghost use Rattle.dr_rows.specs.Views.{row_view, rows_view};
-ghost use Rattle.dr_scalar.specs.Slots.{AreValues};
-ghost use Rattle.dr_mean.specs.RowsOf.{IsRow, IsTyped};
+ghost use Rattle.dr_mean.specs.RowsOf.{OverValues};
+ghost use Rattle.dr_mean.specs.ObjectCells.{Gathers, within_cells, OverWithin, CellsJoin};
 
 use crate::chains::expression_chain;
 use dr_cells::Cells;
@@ -36,9 +27,8 @@ pub fn push_value(
     row: &[Option<ValueRef<'_>>],
     cells: &mut Cells,
 ) -> Result<(), NoMemory>
-    ensures { OnOk result ((ls : List Leaf) (r : record_tree.Node) → AreValues ls row.now r
-        → expr_fits ls expression.now ≡ true
-        → cells_view cells.new ≡ cells_view cells.old ++ value_cell (evaluate (expr_view ls expression.now) r) ∷ []) }
+    ensures { OnOk result (OverValues row.now expression.now (λ ls r.
+        CellsJoin (value_cell (evaluate (expr_view ls expression.now) r) ∷ []) cells.old cells.new)) }
 {
     match eval(alloc, expression, row)? {
         Some(value) => cells.push(Some(value.lend())),
@@ -54,10 +44,8 @@ fn take(
     expression: &Expr,
     row: &[Option<ValueRef<'_>>],
 ) -> Result<(), NoMemory>
-    ensures { OnOk result ((ls : List Leaf) (r : record_tree.Node) → AreValues ls row.now r
-        → expr_fits ls expression.now ≡ true
-        → accumulator_view gathered.new ≡ take_value (accumulator_view gathered.old) (evaluate (expr_view ls
-        expression.now) r)) }
+    ensures { OnOk result (OverValues row.now expression.now (λ ls r. accumulator_view gathered.new
+        ≡ take_value (accumulator_view gathered.old) (evaluate (expr_view ls expression.now) r))) }
 {
     match eval(alloc, expression, row)? {
         Some(value) => gathered.take(alloc, Gathering::Values(fold), Some(value.lend())),
@@ -67,8 +55,8 @@ fn take(
 
 /// Appends what an aggregate has gathered.
 fn push_gathered(gathered: &Accumulator, cells: &mut Cells) -> Result<(), NoMemory>
-    ensures { OnOk result (cells_view cells.new
-        ≡ cells_view cells.old ++ value_cell (result_of (accumulator_view gathered.now)) ∷ []) }
+    ensures { OnOk result (CellsJoin (value_cell (result_of (accumulator_view gathered.now)) ∷ [])
+        cells.old cells.new) }
 {
     match gathered {
         Accumulator::Count(count) => cells.push_whole(Some(i128::from(*count))),
@@ -87,11 +75,7 @@ fn gather(
     expression: &Expr,
     rows: &Rows<'_>,
 ) -> Result<Accumulator, NoMemory>
-    ensures { IfOk result (λ a. (leaves : List Path) (chain : List MeantStep) (whole : record_tree.Node)
-        → IsTyped leaves whole → expr_fits (map path_view leaves) expression.now ≡ true
-        → rows_view rows.now ≡ map (known (paths_view leaves) chain) (rows_meaning.rows chain whole)
-        → accumulator_view a ≡ accumulated (fold_view fold) (map
-        (evaluate (expr_view (map path_view leaves) expression.now)) (rows_meaning.rows chain whole))) }
+    ensures { IfOk result (Gathers fold expression.now rows.now) }
 {
     let mut gathered = Accumulator::new(Gathering::Values(fold));
     'rows: for number in 0..rows.len() {
@@ -114,14 +98,8 @@ pub fn push_aggregate(
     cells: &mut Cells,
 ) -> Result<(), NoMemory>
     requires values { length row.values.now ≡ length leaves.now }
-    ensures { OnOk result ((chain : List MeantStep) (whole : record_tree.Node)
-        → IsRow leaves.now chain (row_view row.entry) whole → length chain ≡ depth
-        → expr_fits (map path_view leaves.now) (within.now).argument ≡ true → begins_with chain (expression_chain
-        (expr_view (map path_view leaves.now) (within.now).argument)) ≡ true
-        → cells_view cells.new ≡ cells_view cells.old ++ value_cell (over_rows (fold_view (within.now).fold)
-        (expr_view (map path_view leaves.now) (within.now).argument)
-        (rows_meaning.rows (expression_chain (expr_view (map path_view leaves.now) (within.now).argument))
-        whole)) ∷ []) }
+    ensures { OnOk result (OverWithin leaves.now within.now depth row.entry (λ whole.
+        CellsJoin (within_cells leaves.now within.now whole) cells.old cells.new)) }
 {
     let chain = expression_chain(leaves, &within.argument);
     let rows = rows_within(alloc, leaves, chain, depth.min(chain.len()), row)?;

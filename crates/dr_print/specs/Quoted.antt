@@ -1,9 +1,11 @@
 -- Shapes with their names in quotes, and objects printed with their names as they stand.
-use Rattle.std.specs.Prelude.{ℕ, List, [], ◌∷◌, ◌++◌, map, string_bytes}
+use Rattle.std.specs.Prelude.{ℕ, List, [], ◌∷◌, ◌++◌, map, string_bytes, drop}
 use Rattle.json.specs.Print.{quoted}
 use Rattle.dr_meaning.specs.Query.{Object, no_entries, cell, list, Objects, no_objects, object}
 use Rattle.dr_meaning.specs.Print.{cell_text, braced, bracketed}
-use Rattle.dr_cells.specs.Results.{ShapeTree, shape_tree, ListShapes, no_list_shapes, list_shape}
+use Rattle.dr_cells.specs.Results.{ShapeTree, shape_tree, ListShapes, no_list_shapes, list_shape, ReadObject, ReadObjects, read_object, read_lists, read_times}
+use Rattle.dr_cells.specs.Views.{cells_view}
+use Rattle.dr_cells.specs.declared.cells.Cells.{Cells}
 use Rattle.dr_cells.specs.Shapes.{SeenList, list_shapes_of}
 use Rattle.dr_print.specs.declared.quoted_shape.QuotedShape.{QuotedShape, fold-QuotedShape}
 use Rattle.dr_print.specs.declared.quoted_shape.QuotedList.{QuotedList, fold-QuotedList}
@@ -62,3 +64,12 @@ abbrev mutual
 -- the text of an object
 abbrev pub text_as_named : Object → List ℕ
 text_as_named o = braced (entries_as_named o)
+
+-- ---- what stands in cells
+
+-- lists, whose counts are from one place on and whose objects from another; and so many objects, from a place on
+abbrev pub lists_at : List QuotedList → Cells → ℕ → ℕ → ReadObject
+lists_at ls cells counts at = read_lists (quoted_lists_view ls) (drop counts (cells_view cells)) (drop at (cells_view cells))
+
+abbrev pub objects_at : QuotedShape → Cells → ℕ → ℕ → ReadObjects
+objects_at shape cells count at = read_times (read_object (quoted_view shape)) count (drop at (cells_view cells))

@@ -2,10 +2,10 @@
 
 ghost use Rattle.std.specs.Prelude.{◌≡◌, ◌++◌, drop, map, string_bytes, IfOk, OnOk, false, ◌||◌, nat_lt};
 ghost use Rattle.dr_meaning.specs.Query.{objects_of};
-ghost use Rattle.dr_cells.specs.Results.{read_object, read_lists, read_times};
+ghost use Rattle.dr_cells.specs.Results.{read_object};
 ghost use Rattle.dr_cells.specs.Views.{cells_view};
 ghost use Rattle.dr_print.specs.Parts.{value_members};
-ghost use Rattle.dr_print.specs.Quoted.{quoted_view, quoted_lists_view, text_as_named, texts_as_named, entries_as_named};
+ghost use Rattle.dr_print.specs.Quoted.{quoted_view, text_as_named, texts_as_named, entries_as_named, lists_at, objects_at};
 ghost use Rattle.dr_meaning.specs.Lists.{separated};
 
 use crate::cell_text::{count_at, push_value};
@@ -80,13 +80,10 @@ fn push_lists(
     at: usize,
     behind: bool,
 ) -> Result<usize, AllocError>
-    ensures text { OnOk result (string_bytes text.new
-        ≡ string_bytes text.old ++ separated behind
-        (entries_as_named (read_lists (quoted_lists_view (lists.now).items) (drop counts (cells_view cells.now))
-        (drop at (cells_view cells.now))).object)) }
+    ensures text { OnOk result (string_bytes text.new ≡ string_bytes text.old
+        ++ separated behind (entries_as_named (lists_at (lists.now).items cells.now counts at).object)) }
     ensures place { IfOk result (λ end. drop end (cells_view cells.now)
-        ≡ (read_lists (quoted_lists_view (lists.now).items) (drop counts (cells_view cells.now))
-        (drop at (cells_view cells.now))).rest) }
+        ≡ (lists_at (lists.now).items cells.now counts at).rest) }
 {
     let mut inner = at;
     'lists: for (number, list) in lists.iter().enumerate() {
@@ -110,12 +107,10 @@ fn push_objects(
     count: u64,
     at: usize,
 ) -> Result<usize, AllocError>
-    ensures text { OnOk result (string_bytes text.new
-        ≡ string_bytes text.old ++ separated false
-        (texts_as_named (objects_of (read_times (read_object (quoted_view shape.now)) count
-        (drop at (cells_view cells.now))).objects))) }
+    ensures text { OnOk result (string_bytes text.new ≡ string_bytes text.old
+        ++ separated false (texts_as_named (objects_of (objects_at shape.now cells.now count at).objects))) }
     ensures place { IfOk result (λ end. drop end (cells_view cells.now)
-        ≡ (read_times (read_object (quoted_view shape.now)) count (drop at (cells_view cells.now))).rest) }
+        ≡ (objects_at shape.now cells.now count at).rest) }
 {
     let mut next = at;
     'objects: for number in 0..count {

@@ -1,9 +1,10 @@
 -- What the answers of a condition's parts stand for, and a pruner that steps by them.
-use Rattle.std.specs.Prelude.{◌≡◌, ℕ, zero, suc, List, [], ◌∷◌, map, Bool, false}
+use Rattle.std.specs.Prelude.{◌≡◌, ℕ, zero, suc, List, [], ◌∷◌, map, Bool, false, ◌+◌, ◌++◌, Some, slice_get}
 use Rattle.dr_meaning.specs.Walk.{Move}
 use Rattle.dr_moves.specs.Context.{Context}
 use Rattle.dr_moves.specs.Condition.{Watch}
-use Rattle.dr_kept_laws.specs.Parts.{Part, part_at, Pruning, nothing_pruned, prune_moves}
+use Rattle.dr_kept_laws.specs.Parts.{Part, part_at, Pruning, nothing_pruned, prune_moves, pruning_tells}
+use Rattle.dr_kept_laws.specs.Telling.{Verdict}
 use Rattle.dr_prune.specs.declared.answers.Answer.{Answer}
 use Rattle.dr_prune.specs.declared.answers.Answers.{Answers}
 use Rattle.dr_prune.specs.declared.pruner.Pruner.{Pruner}
@@ -35,6 +36,11 @@ tested_to zero i c ps = ps
 tested_to (suc k) i c [] = []
 tested_to (suc k) i c (a ∷ ps) = part_at i c a ∷ tested_to k i c ps
 
+-- a part has this answer, where its last leaf is read: if the parts before it were tested, it is the next
+abbrev pub TestsPart : ℕ → Bool → Answers → Answers → Type 0
+TestsPart part b a a' = (t : ℕ → Context → Bool) (c : Context) (ps : List Part) (i : ℕ) → slice_get (lasts_of a) part ≡ Some i → t part c ≡ b
+    → parts_of t a ≡ tested_to part i c ps → parts_of t a' ≡ tested_to (part + 1) i c ps
+
 -- ---- behind moves
 
 -- what a pruner in parts makes of them, by whatever watch
@@ -48,3 +54,11 @@ HasAnswered t ms a = (w : Watch) → parts_of t a ≡ (pruned w t (lasts_of a) m
 -- a pruner behind these moves, which stepped by these answers
 abbrev pub HasPruned : (Context → Bool) → (ℕ → Context → Bool) → List ℕ → List Move → Pruner → Type 0
 HasPruned s t ls ms p = numbers_of p ≡ (pruned (watch_of s p) t ls ms).numbers
+
+-- what a pruner in parts tells at the next move, by what this one watches
+abbrev pub told_in_parts : (Context → Bool) → (ℕ → Context → Bool) → Answers → List Move → Pruner → Move → List Verdict
+told_in_parts s t a ms p m = pruning_tells (watch_of s p) (pruned (watch_of s p) t (lasts_of a) ms) m
+
+-- what is said of a pruner that stepped behind some moves by answers, where these are the answers with the next move
+abbrev pub OverPruned : Pruner → Answers → Move → ((Context → Bool) → (ℕ → Context → Bool) → List Move → Type 0) → Type 0
+OverPruned p a m says = (s : Context → Bool) (t : ℕ → Context → Bool) (ms : List Move) → HasPruned s t (lasts_of a) ms p → HasAnswered t (ms ++ m ∷ []) a → says s t ms

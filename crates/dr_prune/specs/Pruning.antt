@@ -1,5 +1,5 @@
 -- What a pruner stands for: a watched condition, and the numbers of the open branches; and what is told of these by masks.
-use Rattle.std.specs.Prelude.{◌≡◌, ℕ, suc, ⊤, List, [], ◌∷◌, ◌++◌, map, None, Bool}
+use Rattle.std.specs.Prelude.{◌≡◌, ℕ, suc, ⊤, List, [], ◌∷◌, ◌++◌, map, None, Bool, reverse}
 use Rattle.dr_meaning.specs.Walk.{Move, enter, value, leave}
 use Rattle.dr_levels.specs.Branches.{kept_view}
 use Rattle.dr_levels.specs.declared.kept.Branch.{Branch}
@@ -8,7 +8,7 @@ use Rattle.dr_moves.specs.Context.{Context}
 use Rattle.dr_moves.specs.Condition.{Watch}
 use Rattle.dr_kept_laws.specs.MovedContexts.{after_moves}
 use Rattle.dr_kept_laws.specs.Telling.{Verdict, kept, dropped, undecided}
-use Rattle.dr_kept_laws.specs.Counting.{Numbers, nothing_counted, count_all}
+use Rattle.dr_kept_laws.specs.Counting.{Numbers, nothing_counted, count_all, numbers_tell}
 use Rattle.dr_prune.specs.declared.counts.Counts.{Counts}
 use Rattle.dr_prune.specs.declared.pruner.Pruner.{Pruner}
 
@@ -56,3 +56,15 @@ abbrev pub told_count : ℕ → Move → ℕ
 told_count n (enter k) = suc n
 told_count n (value i t) = n
 told_count n (leave k) = n
+
+-- what is told at a move, of the branches that are open behind it and of the one that it leaves
+abbrev pub verdicts_at : Pruner → Move → Kept → List Verdict
+verdicts_at p m k = verdicts_in (told_count (open_in p) m) k
+
+-- what the numbers tell there, by a test in a context
+abbrev pub numbers_told : (Context → Bool) → Context → Pruner → Move → List Verdict
+numbers_told t c p m = reverse (numbers_tell (watch_of t p) c m (numbers_of p))
+
+-- what is said of a pruner by a test and the moves behind which it is, where this is the test's answer with the next move
+abbrev pub OverSeen : Pruner → Move → Bool → ((Context → Bool) → List Move → Type 0) → Type 0
+OverSeen p m b says = (t : Context → Bool) (ms : List Move) → HasSeen t ms p → IsAnswerBehind (watch_of t p) ms m b → says t ms

@@ -5,7 +5,7 @@ ghost use Rattle.std.specs.List.{list_all};
 ghost use Rattle.dr_moves.specs.Context.{Context};
 ghost use Rattle.dr_kept_laws.specs.Parts.{Part, all_answers};
 ghost use Rattle.dr_prune.specs.declared.answers.Answer.{Answer};
-ghost use Rattle.dr_prune.specs.PartAnswers.{lasts_of, parts_of, tested_to, HasAnswered};
+ghost use Rattle.dr_prune.specs.PartAnswers.{lasts_of, parts_of, tested_to, HasAnswered, TestsPart};
 
 use dr_memory::NoMemory;
 use std::alloc::Global;
@@ -60,9 +60,7 @@ impl Answers {
         requires { part < length (lasts_of self.old) }
         ensures lasts { lasts_of self.new ≡ lasts_of self.old }
         // Where its last leaf is read and the parts before it were tested, it is the next.
-        ensures tested { (t : ℕ → Context → Bool) (c : Context) (ps : List Part) (i : ℕ)
-            → slice_get (lasts_of self.old) part ≡ Some i → t part c ≡ is_true
-            → parts_of t self.old ≡ tested_to part i c ps → parts_of t self.new ≡ tested_to (part + 1) i c ps }
+        ensures tested { TestsPart part is_true self.old self.new }
     {
         self.parts[part].is_true = is_true;
     }

@@ -21,16 +21,14 @@ pub struct Pruner {
 }
 
 impl Pruner {
-    ghost use Rattle.std.specs.Prelude.{ℕ, List, ◌∷◌, [], ◌++◌, ◌==◌, ◌&&◌, ◌-◌, ◌^◌, Bool, true, None, drop, slice_get, reverse, IfOk, if◌then◌else◌};
+    ghost use Rattle.std.specs.Prelude.{ℕ, ◌∷◌, [], ◌++◌, ◌==◌, ◌&&◌, ◌-◌, ◌^◌, Bool, true, drop, slice_get, reverse, IfOk, if◌then◌else◌};
     ghost use Rattle.dr_levels.specs.Views.{move_view};
     ghost use Rattle.dr_moves.specs.Context.{Context};
-    ghost use Rattle.dr_moves.specs.Condition.{Watch};
     ghost use Rattle.dr_meaning.specs.Walk as meant;
     ghost use Rattle.dr_kept_laws.specs.Telling.{told};
-    ghost use Rattle.dr_kept_laws.specs.Counting.{no_numbers, is_first, count_row, count_left, count_move, numbers_tell, verdicts_of, left_among};
-    ghost use Rattle.dr_kept_laws.specs.Parts.{pruning_tells};
-    ghost use Rattle.dr_prune.specs.PartAnswers.{lasts_of, pruned, HasAnswered, HasPruned};
-    ghost use Rattle.dr_prune.specs.Pruning.{numbers_of, watch_of, open_in, verdicts_in, told_count, HasSeen, IsAnswer, IsAnswerBehind};
+    ghost use Rattle.dr_kept_laws.specs.Counting.{no_numbers, is_first, count_row, count_left, count_move, verdicts_of, left_among};
+    ghost use Rattle.dr_prune.specs.PartAnswers.{lasts_of, told_in_parts, HasPruned, OverPruned};
+    ghost use Rattle.dr_prune.specs.Pruning.{numbers_of, watch_of, open_in, verdicts_in, HasSeen, IsAnswer, verdicts_at, numbers_told, OverSeen};
 
     /// A pruner before any move, for the condition whose chain has these repeated fields, outermost first, each by its
     /// number in the schema, without the record's 0, and whose last leaf to be read is the one at this place of the
@@ -149,16 +147,12 @@ impl Pruner {
             → numbers_of self.new ≡ count_move (watch_of t self.old) c (move_view m.now) (numbers_of self.old) }
         // What it tells is what the numbers tell.
         ensures tells { (t : Context → Bool) (c : Context) → IsAnswer (watch_of t self.old) c (move_view m.now) is_true
-            → verdicts_in (told_count (open_in self.old) (move_view m.now)) result
-            ≡ reverse (numbers_tell (watch_of t self.old) c (move_view m.now) (numbers_of self.old)) }
+            → verdicts_at self.old (move_view m.now) result ≡ numbers_told t c self.old (move_view m.now) }
         // Behind the moves that it has seen it is what is told of their branches.
-        ensures told { (t : Context → Bool) (ms : List meant.Move) → HasSeen t ms self.old
-            → IsAnswerBehind (watch_of t self.old) ms (move_view m.now) is_true
-            → verdicts_in (told_count (open_in self.old) (move_view m.now)) result
-            ≡ told (watch_of t self.old) ms (move_view m.now) }
-        ensures seen { (t : Context → Bool) (ms : List meant.Move) → HasSeen t ms self.old
-            → IsAnswerBehind (watch_of t self.old) ms (move_view m.now) is_true
-            → HasSeen t (ms ++ move_view m.now ∷ []) self.new }
+        ensures told { OverSeen self.old (move_view m.now) is_true (λ t ms.
+            verdicts_at self.old (move_view m.now) result ≡ told (watch_of t self.old) ms (move_view m.now)) }
+        ensures seen { OverSeen self.old (move_view m.now) is_true (λ t ms.
+            HasSeen t (ms ++ move_view m.now ∷ []) self.new) }
         // It goes on to watch the same condition.
         ensures watches { (t : Context → Bool) → watch_of t self.new ≡ watch_of t self.old }
     {
@@ -175,14 +169,11 @@ impl Pruner {
     pub fn step_with(&mut self, m: &Move<'_>, answers: &Answers) -> Kept
         requires { open_in self.old < 2 ^ 32 - 1 }
         // Behind the moves that it and the answers have seen, what it tells is what a pruner in parts tells.
-        ensures tells { (s : Context → Bool) (t : ℕ → Context → Bool) (ms : List meant.Move)
-            → HasPruned s t (lasts_of answers.now) ms self.old → HasAnswered t (ms ++ move_view m.now ∷ []) answers.now
-            → verdicts_in (told_count (open_in self.old) (move_view m.now)) result
-            ≡ pruning_tells (watch_of s self.old) (pruned (watch_of s self.old) t (lasts_of answers.now) ms) (move_view
-            m.now) }
-        ensures pruned { (s : Context → Bool) (t : ℕ → Context → Bool) (ms : List meant.Move)
-            → HasPruned s t (lasts_of answers.now) ms self.old → HasAnswered t (ms ++ move_view m.now ∷ []) answers.now
-            → HasPruned s t (lasts_of answers.now) (ms ++ move_view m.now ∷ []) self.new }
+        ensures tells { OverPruned self.old answers.now (move_view m.now) (λ s t ms.
+            verdicts_at self.old (move_view m.now) result
+            ≡ told_in_parts s t answers.now ms self.old (move_view m.now)) }
+        ensures pruned { OverPruned self.old answers.now (move_view m.now) (λ s t ms.
+            HasPruned s t (lasts_of answers.now) (ms ++ move_view m.now ∷ []) self.new) }
         // It goes on to watch the same condition.
         ensures watches { (s : Context → Bool) → watch_of s self.new ≡ watch_of s self.old }
     {

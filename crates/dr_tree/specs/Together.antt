@@ -1,14 +1,18 @@
 -- Partials that are gathered together.
-use Rattle.std.specs.Prelude.{◌≡◌, ℕ, ◌+◌, ◌^◌, ◌≤◌, ⊤, true, List, [], ◌∷◌, map}
+use Rattle.std.specs.Prelude.{◌≡◌, ℕ, ◌+◌, ◌^◌, ◌≤◌, ⊤, true, List, [], ◌∷◌, map, ◌++◌}
 use Rattle.std.specs.List.{list_all}
 use Rattle.dr_meaning.specs.Schema.{Fields}
 use Rattle.dr_meaning.specs.Query.{Query}
 use Rattle.dr_partials.specs.Partials as meant
+use Rattle.dr_partials.specs.Trees as trees
+use Rattle.dr_partials.specs.Trees.{gathered_behind, tablets_of, tablets_of_all}
 use Rattle.dr_partials.specs.PartialTypes.{is_partial}
 use Rattle.dr_partials.specs.PartialBounds.{PartialCanBeOf}
 use Rattle.dr_plan.specs.Planned.{Planned}
 use Rattle.dr_group.specs.Partials.{partial_view, IsPartialOf}
 use Rattle.dr_group.specs.declared.partial.Partial.{Partial}
+use Rattle.dr_tree.specs.Views.{tree_view, trees_view}
+use Rattle.dr_tree.specs.declared.tree.Tree.{Tree}
 
 abbrev pub partials_view : List Partial → List meant.Partial
 partials_view ps = map partial_view ps
@@ -53,3 +57,17 @@ pub record IsGathered (tablets : List ℕ) (gathers : (ℕ → meant.Partial) �
 pub record IsMerged (a b r : Partial) : Type 0 where
   pub partial : partial_view r ≡ meant.merge (partial_view a) (partial_view b)
   pub of_plan : (p : Planned) → IsPartialOf p a → IsPartialOf p r
+
+-- the tablets of a child and of further ones, and what they gather
+abbrev pub tablets_under : Tree → List Tree → List ℕ
+tablets_under first rest = tablets_of (tree_view first) ++ tablets_of_all (trees_view rest)
+
+abbrev pub gathered_under : Tree → List Tree → (ℕ → meant.Partial) → meant.Partial
+gathered_under first rest piece = gathered_behind piece (trees.gathered piece (tree_view first)) (trees_view rest)
+
+-- with a last child behind them
+abbrev pub tablets_with : Tree → List Tree → Tree → List ℕ
+tablets_with first front last = tablets_under first front ++ tablets_of (tree_view last)
+
+abbrev pub gathered_with : Tree → List Tree → Tree → (ℕ → meant.Partial) → meant.Partial
+gathered_with first front last piece = meant.merge (gathered_under first front piece) (trees.gathered piece (tree_view last))

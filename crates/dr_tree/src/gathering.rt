@@ -9,7 +9,7 @@ ghost use Rattle.dr_partials.specs.Partials as meant;
 ghost use Rattle.dr_partials.specs.Trees.{gathered, gathered_behind, tablets_of, tablets_of_all};
 ghost use Rattle.dr_plan.specs.Planned.{Planned};
 ghost use Rattle.dr_group.specs.Partials.{partial_view, AreAlike, IsPartialOf};
-ghost use Rattle.dr_tree.specs.Together.{AreBounded, AreOfPlan, IsBounded, IsGathered, IsMerged, Together, partials_view};
+ghost use Rattle.dr_tree.specs.Together.{AreBounded, AreOfPlan, IsBounded, IsGathered, IsMerged, Together, partials_view, tablets_under, gathered_under, tablets_with, gathered_with};
 ghost use Rattle.dr_tree.specs.Views.{tree_view, trees_view};
 
 use crate::tree::{Tree, count_tablets};
@@ -85,8 +85,8 @@ fn gather_children<R: Threads + Sync>(
     requires tablets { length partials.items
         ≡ length (tablets_of (tree_view first.now) ++ tablets_of_all (trees_view rest.now)) }
     requires together { Together partials.items }
-    ensures { IfOk result (IsGathered (tablets_of (tree_view first.now) ++ tablets_of_all (trees_view rest.now))
-        (λ piece. gathered_behind piece (gathered piece (tree_view first.now)) (trees_view rest.now)) partials.items) }
+    ensures { IfOk result (IsGathered (tablets_under first.now rest.now)
+        (λ piece. gathered_under first.now rest.now piece) partials.items) }
 {
     match rest.split_last() {
         None => gather_tree(rt, alloc, first, partials),
@@ -114,10 +114,8 @@ fn gather_last<R: Threads + Sync>(
         (tablets_of (tree_view first.now) ++ tablets_of_all (trees_view front.now)) }
     requires last { length behind.items ≡ length (tablets_of (tree_view last.now)) }
     requires together { Together (partials.items ++ behind.items) }
-    ensures { IfOk result (IsGathered ((tablets_of (tree_view first.now) ++ tablets_of_all (trees_view front.now))
-        ++ tablets_of (tree_view last.now))
-        (λ piece. meant.merge (gathered_behind piece (gathered piece (tree_view first.now)) (trees_view front.now))
-        (gathered piece (tree_view last.now))) (partials.items ++ behind.items)) }
+    ensures { IfOk result (IsGathered (tablets_with first.now front.now last.now)
+        (λ piece. gathered_with first.now front.now last.now piece) (partials.items ++ behind.items)) }
 {
     if let Tree::Leaf(_) = last {
         let mine = gather_children(rt, alloc, first, front, partials)?;

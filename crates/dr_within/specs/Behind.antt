@@ -1,5 +1,5 @@
 -- A scan of groups behind some moves: what it has made of them.
-use Rattle.std.specs.Prelude.{ℕ, zero, suc, List, [], ◌∷◌, map, length, replicate, Bool, true, ◌||◌, nat_le, nat_lt, Option, None, Some}
+use Rattle.std.specs.Prelude.{ℕ, zero, suc, List, [], ◌∷◌, map, length, replicate, Bool, true, ◌||◌, nat_le, nat_lt, Option, None, Some, ◌++◌}
 use Rattle.dr_meaning.specs.Path.{Leaf, paths_of_leaves}
 use Rattle.dr_meaning.specs.Record.{Node}
 use Rattle.dr_meaning.specs.Expression.{longest_chain}
@@ -8,6 +8,8 @@ use Rattle.dr_kept_laws.specs.GroupFlow.{Reading, all_fired, all_left, left_with
 use Rattle.dr_kept_laws.specs.Counting.{Numbers}
 use Rattle.dr_kept_laws.specs.Frames.{Frames}
 use Rattle.dr_made_laws.specs.LastRead.{paths_at}
+use Rattle.dr_levels.specs.Views.{move_view}
+use Rattle.dr_levels.specs.declared.moves.Move.{Move as CodeMove}
 use Rattle.dr_partials.specs.Putting.{Put}
 use Rattle.dr_plan.specs.Planned.{Planned}
 use Rattle.dr_condition.specs.Parted.{WatchedParts}
@@ -18,7 +20,9 @@ use Rattle.dr_within.specs.Takings.{Take, leaves_of, fires_at, put_read}
 use Rattle.dr_within.specs.Firings.{Fires}
 use Rattle.dr_within.specs.FramedMoves.{framed_behind}
 use Rattle.dr_within.specs.Framing.{Holds}
+use Rattle.dr_within.specs.Rows.{HasRead, IsOfLeaf}
 use Rattle.dr_within.specs.declared.groups.GroupScan.{GroupScan}
+use Rattle.dr_within.specs.declared.row.Row.{Row}
 
 -- ---- the readings of takings
 
@@ -63,3 +67,12 @@ pub record IsBehind (p : Planned) (ls : List Leaf) (ts : List Take) (ms : List M
   pub made : Holds p (length g.keys.now) (frames_behind (watch_in g.condition) (readings_at ls g.keys.now ts) ms).made
       (settled_behind (watch_in g.condition) (length (frames_behind (watch_in g.condition) (readings_at ls g.keys.now ts) ms).marks) ms)
       (frames_behind (watch_in g.condition) (readings_at ls g.keys.now ts) ms).marks g.frames
+
+-- it is behind the next move as well, where the row holds what was read last
+abbrev pub GoesBehind : Row → CodeMove → GroupScan → GroupScan → Type 0
+GoesBehind row m g g' = (p : Planned) (ls : List Leaf) (ts : List Take) (ms : List Move) → IsBehind p ls ts ms g → HasRead (length ls) ms row
+    → IsOfLeaf (length ls) (move_view m) → IsBehind p ls ts (ms ++ move_view m ∷ []) g'
+
+-- what a scan makes of these moves, for a plan with these leaves, by these takings
+abbrev pub puts_behind : List Leaf → List Take → GroupScan → List Move → List Put
+puts_behind ls ts g ms = (frames_behind (watch_in g.condition) (readings_at ls g.keys.now ts) ms).made

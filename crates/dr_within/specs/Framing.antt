@@ -1,5 +1,5 @@
 -- What was made in the branches that are open, and how much of it is put already.
-use Rattle.std.specs.Prelude.{◌≡◌, ◌+◌, ℕ, ⊤, List, [], ◌∷◌, ◌++◌, length, reverse, Bool, true, false}
+use Rattle.std.specs.Prelude.{◌≡◌, ◌+◌, ℕ, ⊤, List, [], ◌∷◌, ◌++◌, length, reverse, Bool, true, false, take, if◌then◌else◌}
 use Rattle.dr_partials.specs.Partials.{empty_partial}
 use Rattle.dr_partials.specs.Putting.{Put, put_all}
 use Rattle.dr_plan.specs.Planned.{Planned, planned_query}
@@ -32,3 +32,19 @@ StaySettled bs cs = ⊥
 abbrev pub AllSettled : List Bool → Type 0
 AllSettled [] = ⊤
 AllSettled (b ∷ bs) = (b ≡ true) × AllSettled bs
+
+-- a branch is open as well, of which this is known
+abbrev pub EntersBranch : Frames → Frames → Type 0
+EntersBranch f f' = (p : Planned) (n : ℕ) (made : List Put) (settled : List Bool) (marks : List ℕ) (b : Bool) → Holds p n made settled marks f
+    → Holds p n made (b ∷ settled) (length made ∷ marks) f'
+
+-- these puts, whose key tuples have n cells, were made as well; where they are kept, all open branches are
+abbrev pub MakesPuts : Bool → ℕ → List Put → Frames → Frames → Type 0
+MakesPuts is_kept n puts f f' = (p : Planned) (made : List Put) (settled later : List Bool) (marks : List ℕ) → Holds p n made settled marks f
+    → StaySettled settled later → (is_kept ≡ true → AllSettled later) → Holds p n (made ++ puts) later marks f'
+
+-- the innermost branch is closed: what was made in it is cut off where it is dropped, else these puts were made as well
+abbrev pub LeavesBranch : Bool → ℕ → List Put → Frames → Frames → Type 0
+LeavesBranch is_dropped n puts f f' = (p : Planned) (made : List Put) (b : Bool) (settled : List Bool) (mark : ℕ) (marks : List ℕ)
+    → Holds p n made (b ∷ settled) (mark ∷ marks) f → (is_dropped ≡ true → b ≡ false)
+    → Holds p n (if is_dropped then take mark made else made ++ puts) settled marks f'

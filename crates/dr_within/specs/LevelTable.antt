@@ -1,11 +1,11 @@
 -- The table of a record query's levels by their numbers, as the tree of its objects gives it.
-use Rattle.std.specs.Prelude.{ℕ, zero, suc, List, [], ◌∷◌, ◌==◌, if◌then◌else◌, Option, None, Some, option_map}
+use Rattle.std.specs.Prelude.{ℕ, zero, suc, List, [], ◌∷◌, ◌==◌, if◌then◌else◌, Option, None, Some, option_map, ◌≡◌}
 use denote.Ref.{Bor}
 use Rattle.dr_meaning.specs.Schema.{Fields}
 use Rattle.dr_meaning.specs.Path.{Step}
-use Rattle.dr_meaning.specs.Query.{RecordItem, Levels as MeantLevels}
+use Rattle.dr_meaning.specs.Query.{RecordItem, Levels as MeantLevels, levels_of}
 use Rattle.dr_kept_laws.specs.ChainNumbers.{chain_numbers}
-use Rattle.dr_plan.specs.Objects.{ObjectTree, object_tree, ListTrees, no_lists, list_tree}
+use Rattle.dr_plan.specs.Objects.{ObjectTree, object_tree, ListTrees, no_lists, list_tree, object_tree_of}
 use Rattle.dr_within.specs.ObjectLevels.{IsLevelAt}
 use Rattle.dr_within.specs.declared.levels.Level.{Level}
 use Rattle.dr_within.specs.declared.levels.Levels.{Levels}
@@ -72,3 +72,7 @@ lent_level l = option_map (λ (b : Bor Level). b.now) l
 -- the table has the level of each number
 abbrev pub AreLevels : List RecordItem → MeantLevels → Levels → Type 0
 AreLevels items ls t = (k : ℕ) → IsLevelAt items ls k (level_in t.rows.items k)
+
+-- it has those of a schema, for a tree of objects by items
+abbrev pub HasLevelsOf : Fields → ObjectTree → Levels → Type 0
+HasLevelsOf fs tree t = (items : List RecordItem) → tree ≡ object_tree_of fs items → AreLevels items (levels_of fs) t

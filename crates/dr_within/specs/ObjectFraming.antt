@@ -1,20 +1,26 @@
 -- What was made of a record query in the branches that are open: objects, and what was gathered for the items with WITHIN.
-use Rattle.std.specs.Prelude.{◌≡◌, ℕ, zero, suc, ⊤, List, [], ◌∷◌, ◌++◌, map, length, reverse, Bool, false, ◌==◌, if◌then◌else◌, Option, None, Some}
+use Rattle.std.specs.Prelude.{◌≡◌, ℕ, zero, suc, ⊤, List, [], ◌∷◌, ◌++◌, map, length, reverse, Bool, false, ◌==◌, if◌then◌else◌, Option, None, Some, take, drop}
 use Rattle.dr_meaning.specs.Path.{Leaf}
-use Rattle.dr_meaning.specs.Query.{Aggregate, RecordTerm as MeantTerm, expression, within, RecordItem as MeantItem, Object}
+use Rattle.dr_meaning.specs.Record.{Value}
+use Rattle.dr_meaning.specs.Query.{Aggregate, RecordTerm as MeantTerm, expression, within, RecordItem as MeantItem, Object, Levels}
 use Rattle.dr_moves.specs.Context.{Context}
-use Rattle.dr_made_laws.specs.ObjectFlow.{Made, built, taken, ReadItem, values_for}
+use Rattle.dr_made_laws.specs.ObjectFlow.{Made, built, taken, ReadItem, values_for, Level as MeantLevel, items_of, left_items, object_made, seen_items, gathered}
 use Rattle.dr_made_laws.specs.ObjectFlowLaws.{made_objects}
 use Rattle.dr_partials.specs.Accumulators.{Accumulator, aggregate_of, empty_accumulator, join, accumulated}
-use Rattle.dr_plan.specs.Views.{record_item_view}
+use Rattle.dr_plan.specs.Views.{record_item_view, fold_view}
 use Rattle.dr_plan.specs.declared.expression.Expr.{Expr}
+use Rattle.dr_plan.specs.declared.aggregate.Within.{Within}
 use Rattle.dr_plan.specs.declared.plan.RecordTerm.{RecordTerm}
 use Rattle.dr_plan.specs.declared.plan.RecordItem.{RecordItem}
 use Rattle.dr_scalar.specs.Leaves.{expr_leaves, greatest}
 use Rattle.dr_scalar.specs.OverSlots.{expr_over}
-use Rattle.dr_cells.specs.Results.{ShapeTree, AllFitShape, result_cells}
+use Rattle.dr_cells.specs.Results.{ShapeTree, AllFitShape, result_cells, object_cells}
 use Rattle.dr_cells.specs.Views.{cells_view}
+use Rattle.dr_cells.specs.declared.cells.Cells.{Cells}
 use Rattle.dr_group.specs.Views.{accumulator_view}
+use Rattle.dr_within.specs.ObjectLevels.{IsLevel, IsLevelAt}
+use Rattle.dr_within.specs.OwnCells.{taken_at}
+use Rattle.dr_within.specs.declared.levels.Level.{Level}
 use Rattle.dr_within.specs.declared.built.Run.{Run}
 use Rattle.dr_within.specs.declared.built.Built.{Built}
 use Rattle.dr_within.specs.declared.within_values.ItemValues.{ItemValues}
@@ -81,6 +87,12 @@ pub record HoldsBuilt (made : List Made) (b : Built) : Type 0 where
   pub runs : AreRuns b.runs.items (built_in made)
   pub cells : cells_view b.cells ≡ result_cells (made_objects made)
 
+-- one object more is held, of a level: its cells stand behind those of the others, from this number on
+abbrev pub AddsObject : ℕ → ℕ → Built → Built → Type 0
+AddsObject level first b b' = (made : List Made) (o : Object) → AreRuns b.runs.items (built_in made)
+    → cells_view b.cells ≡ result_cells (made_objects made) ++ object_cells o → first ≡ length (result_cells (made_objects made))
+    → HoldsBuilt (made ++ built level o ∷ []) b'
+
 -- ---- values
 
 -- the aggregate of the item at a place; none of an expression
@@ -103,6 +115,10 @@ abbrev pub AreOfItems : List MeantItem → List ItemValues → Type 0
 AreOfItems items [] = ⊤
 AreOfItems items (e ∷ es) = (aggregate_at items e.item ≡ Some (aggregate_of (accumulator_view e.gathered))) × AreOfItems items es
 
+-- what an aggregate of an expression gathers: these values, which were taken for it, or the one of an expression without leaves
+abbrev pub accumulated_for : Within → Context → List (Option Value) → Accumulator
+accumulated_for w c vs = accumulated (fold_view w.fold) (gathered (greatest (expr_leaves w.argument)) (expr_over c w.argument) vs)
+
 pub record HoldsValues (items : List MeantItem) (made : List Made) (v : WithinValues) : Type 0 where
   pub typed : AreOfItems items v.entries.items
   pub gathers : (j : ℕ) (a : Aggregate) → aggregate_at items j ≡ Some a → gathered_for a j v.entries.items ≡ accumulated a (values_for j made)
@@ -113,6 +129,35 @@ pub record HoldsValues (items : List MeantItem) (made : List Made) (v : WithinVa
 pub record HoldsFrame (items : List MeantItem) (made : List Made) (f : ObjectFrame) : Type 0 where
   pub built : HoldsBuilt made f.built
   pub values : HoldsValues items made f.values
+
+-- what is said of the items with their readings, by whatever was made for them
+abbrev pub OverMade : List RecordItem → WithinValues → (List ReadItem → List Made → Type 0) → Type 0
+OverMade items v says = (ls : List Leaf) (rs : List ReadItem) (made : List Made) → AreReadItems ls items rs → HoldsValues (items_of rs) made v → says rs made
+
+-- the same of an item that has this aggregate
+abbrev pub OverMadeFor : ℕ → Aggregate → WithinValues → (List Made → Type 0) → Type 0
+OverMadeFor item a v says = (items : List MeantItem) (made : List Made) → HoldsValues items made v → aggregate_at items item ≡ Some a → says made
+
+-- the cells of the object of an instance of this level join others, where this was made in it
+abbrev pub JoinsObject : List RecordItem → Level → Context → ObjectFrame → Cells → Cells → Type 0
+JoinsObject items level c inner cells cells' = (ls : List Leaf) (rs : List ReadItem) (made : List Made) (k : ℕ) (m : MeantLevel) → AreReadItems ls items rs
+    → HoldsFrame (items_of rs) made inner → IsLevel (items_of rs) k m level → cells_view cells' ≡ cells_view cells ++ object_cells (object_made rs (suc k) m c made)
+
+-- what is taken for the item at a place was made as well
+abbrev pub TakesItem : List RecordItem → ℕ → Context → ObjectFrame → ObjectFrame → Type 0
+TakesItem items place c f f' = (ls : List Leaf) (rs : List ReadItem) (made : List Made) → AreReadItems ls items rs → HoldsFrame (items_of rs) made f
+    → HoldsFrame (items_of rs) (made ++ taken_at rs c place) f'
+
+-- what is taken at a leaf was made as well, for the items at these places, which fire there
+abbrev pub TakesItems : List RecordItem → List ℕ → Context → ObjectFrame → ObjectFrame → Type 0
+TakesItems items places c f f' = (ls : List Leaf) (rs : List ReadItem) (i : ℕ) (made : List Made) → AreReadItems ls items rs → places ≡ fired_places 0 rs i
+    → HoldsFrame (items_of rs) made f → HoldsFrame (items_of rs) (made ++ seen_items rs i c) f'
+
+-- what is left of a branch of the level of this number was made as well, where the inner frame holds what was made in it
+abbrev pub TakesBranch : List RecordItem → ℕ → Option Level → Context → ObjectFrame → ObjectFrame → ObjectFrame → Type 0
+TakesBranch items number level c inner f f' = (ls : List Leaf) (rs : List ReadItem) (levels : Levels) (made more : List Made) → AreReadItems ls items rs
+    → IsLevelAt (items_of rs) levels number level → HoldsFrame (items_of rs) made f → HoldsFrame (items_of rs) more inner
+    → HoldsFrame (items_of rs) (made ++ left_items rs levels number c more) f'
 
 -- what was made before the innermost branch began, and in it
 pub record InnerFrame (items : List MeantItem) (made : List Made) (mark : ℕ) (f : ObjectFrame) (Around : List Made → Type 0) : Type 0 where
@@ -132,6 +177,18 @@ HoldsFrames items (m ∷ ms) made f (g ∷ gs) = InnerFrame items made m f (λ (
 
 abbrev pub HoldsObjects : List MeantItem → List Made → List ℕ → ObjectFrames → Type 0
 HoldsObjects items made marks f = HoldsFrames items marks made f.inner (reverse f.around.items)
+
+-- what is taken at a leaf was made as well, for the items at these places, which fire there
+abbrev pub TakesItemsInside : List RecordItem → List ℕ → Context → ObjectFrames → ObjectFrames → Type 0
+TakesItemsInside items places c f f' = (ls : List Leaf) (rs : List ReadItem) (i : ℕ) (made : List Made) (marks : List ℕ) → AreReadItems ls items rs
+    → places ≡ fired_places 0 rs i → HoldsObjects (items_of rs) made marks f → HoldsObjects (items_of rs) (made ++ seen_items rs i c) marks f'
+
+-- the innermost branch, of the level of this number, is closed: what was made in it is cut off, and where it isn't dropped, what is left of it was made
+-- as well
+abbrev pub LeavesObjects : Bool → List RecordItem → ℕ → Option Level → Context → ObjectFrames → ObjectFrames → Type 0
+LeavesObjects is_dropped items number level c f f' = (ls : List Leaf) (rs : List ReadItem) (levels : Levels) (made : List Made) (mark : ℕ) (marks : List ℕ)
+    → AreReadItems ls items rs → IsLevelAt (items_of rs) levels number level → HoldsObjects (items_of rs) made (mark ∷ marks) f
+    → HoldsObjects (items_of rs) (if is_dropped then take mark made else take mark made ++ left_items rs levels number c (drop mark made)) marks f'
 
 -- with no branch open, the objects that were made fit a shape
 pub record ClosesAs (s : ShapeTree) (f : ObjectFrames) : Type 0 where

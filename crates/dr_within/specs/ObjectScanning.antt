@@ -1,5 +1,5 @@
 -- The scan of a plan of objects behind some moves.
-use Rattle.std.specs.Prelude.{◌≡◌, ℕ, List, [], length, Bool, true, Option, None, Some}
+use Rattle.std.specs.Prelude.{◌≡◌, ℕ, List, [], length, Bool, true, Option, None, Some, ◌∷◌, ◌++◌}
 use Rattle.std.specs.List.{list_all}
 use Rattle.std.specs.declared.vec.Vec.{Vec}
 use Rattle.std.specs.declared.alloc.Global.{Global}
@@ -9,6 +9,8 @@ use Rattle.dr_meaning.specs.Query.{levels_of}
 use Rattle.dr_meaning.specs.Record.{Node, is_record}
 use Rattle.dr_meaning.specs.Walk.{Move, walk}
 use Rattle.dr_made_laws.specs.ObjectFlow.{items_of}
+use Rattle.dr_levels.specs.Views.{move_view}
+use Rattle.dr_levels.specs.declared.moves.Move.{Move as CodeMove}
 use Rattle.dr_partials.specs.Partials.{empty_partial, partial_of}
 use Rattle.dr_plan.specs.Planned.{plan_leaves, plan_view, planned_query, IsOfSchema}
 use Rattle.dr_plan.specs.declared.objects.ObjectPlan.{ObjectPlan}
@@ -22,7 +24,9 @@ use Rattle.dr_within.specs.ItemFirings.{FiresItems}
 use Rattle.dr_within.specs.LevelTable.{AreLevels}
 use Rattle.dr_within.specs.ObjectFraming.{HoldsObjects}
 use Rattle.dr_within.specs.ObjectsBehind.{read_items, objects_behind}
+use Rattle.dr_within.specs.Rows.{HasRead, IsOfLeaf}
 use Rattle.dr_within.specs.declared.object_scan.ObjectScan.{ObjectScan}
+use Rattle.dr_within.specs.declared.row.Row.{Row}
 
 -- for a plan of these items: what it goes by, whatever the moves
 pub record IsForItems (s : Schema) (p : Plan) (items : List RecordItem) (g : ObjectScan) : Type 0 where
@@ -45,6 +49,11 @@ pub record ScansObjects (s : Schema) (p : Plan) (ms : List Move) (g : ObjectScan
   pub selects : p.selection ≡ Selection.Objects items object
   pub is_for : IsForItems s p items.items g
   pub behind : HasMade s p items.items ms g
+
+-- it has made what the plan makes of the next move as well, where the row holds what was read last
+abbrev pub ScansNextObjects : Row → CodeMove → ObjectScan → ObjectScan → Type 0
+ScansNextObjects row m g g' = (s : Schema) (p : Plan) (ms : List Move) → ScansObjects s p ms g → HasRead (length (plan_leaves p)) ms row
+    → IsOfLeaf (length (plan_leaves p)) (move_view m) → ScansObjects s p (ms ++ move_view m ∷ []) g'
 
 -- how many branches are open for its condition
 abbrev pub open_in_objects : ObjectScan → ℕ

@@ -1,9 +1,13 @@
 -- What was read last of each leaf: lent for a stretch of moves, and kept from one stretch to the next.
 use Rattle.std.specs.Prelude.{◌≡◌, ◌<◌, ℕ, ⊤, List, map, length, Option, None, Some, string_bytes}
 use Rattle.std.specs.List.{slice_index_or}
-use Rattle.dr_meaning.specs.Record.{Value, bool_value, int_value, text_value}
-use Rattle.dr_meaning.specs.Walk.{Move, enter, value, leave}
+use Rattle.dr_meaning.specs.Schema.{Schema}
+use Rattle.dr_meaning.specs.Path.{paths_of_leaves}
+use Rattle.dr_meaning.specs.Record.{Value, bool_value, int_value, text_value, Node}
+use Rattle.dr_meaning.specs.Walk.{Move, enter, value, leave, walk}
 use Rattle.dr_kept_laws.specs.MovedContexts.{after_moves}
+use Rattle.dr_plan.specs.Planned.{plan_leaves}
+use Rattle.dr_plan.specs.declared.plan.Plan.{Plan}
 use Rattle.dr_scalar.specs.Slots.{slot_value}
 use Rattle.dr_within.specs.declared.last_read.Scalar.{Scalar}
 use Rattle.dr_within.specs.declared.last_read.LastValue.{LastValue}
@@ -37,3 +41,7 @@ value_in vs i = slice_index_or vs i None
 -- what was read last of each of so many leaves by these moves is kept
 abbrev pub HasLast : ℕ → List Move → LastRead → Type 0
 HasLast n ms l = (length l.values.items ≡ n) × (after_moves (λ i. None) ms ≡ value_in (map last_value l.values.items))
+
+-- the walk of records over a plan's leaves
+abbrev pub plan_walk : Schema → Plan → List Node → List Move
+plan_walk s p R = walk s.fields (paths_of_leaves (plan_leaves p)) R

@@ -1,5 +1,5 @@
 -- The scan of a plan of groups behind some moves.
-use Rattle.std.specs.Prelude.{◌≡◌, ℕ, List, [], Bool, true, Option, None, Some}
+use Rattle.std.specs.Prelude.{◌≡◌, ℕ, List, [], Bool, true, Option, None, Some, ◌∷◌, ◌++◌, length}
 use Rattle.std.specs.List.{list_all}
 use Rattle.std.specs.declared.vec.Vec.{Vec}
 use Rattle.std.specs.declared.alloc.Global.{Global}
@@ -7,6 +7,8 @@ use Rattle.dr_meaning.specs.Schema.{Schema}
 use Rattle.dr_meaning.specs.Record.{Node, is_record}
 use Rattle.dr_meaning.specs.Walk.{Move}
 use Rattle.dr_partials.specs.Partials.{empty_partial, partial_of}
+use Rattle.dr_levels.specs.Views.{move_view}
+use Rattle.dr_levels.specs.declared.moves.Move.{Move as CodeMove}
 use Rattle.dr_plan.specs.Planned.{plan_leaves, plan_view, planned_query}
 use Rattle.dr_plan.specs.declared.aggregate.Aggregate.{Aggregate}
 use Rattle.dr_plan.specs.declared.plan.GroupItem.{GroupItem}
@@ -16,7 +18,9 @@ use Rattle.dr_condition.specs.Conditions.{watch_in, open_for}
 use Rattle.dr_condition.specs.PlanConditions.{WatchesPlan}
 use Rattle.dr_within.specs.Takings.{takings_of}
 use Rattle.dr_within.specs.Behind.{IsBehind}
+use Rattle.dr_within.specs.Rows.{HasRead, IsOfLeaf}
 use Rattle.dr_within.specs.declared.plan_scan.PlanScan.{PlanScan}
+use Rattle.dr_within.specs.declared.row.Row.{Row}
 
 -- it has made what a plan of groups makes of these moves
 pub record Scans (s : Schema) (p : Plan) (ms : List Move) (g : PlanScan) : Type 0 where
@@ -27,6 +31,11 @@ pub record Scans (s : Schema) (p : Plan) (ms : List Move) (g : PlanScan) : Type 
   pub keyed : g.groups.keys.now ≡ keys.items
   pub watches : WatchesPlan s p (watch_in g.groups.condition)
   pub behind : IsBehind (plan_view p) (plan_leaves p) (takings_of aggregates.items) ms g.groups
+
+-- it has made what the plan makes of the next move as well, where the row holds what was read last
+abbrev pub ScansNext : Row → CodeMove → PlanScan → PlanScan → Type 0
+ScansNext row m g g' = (s : Schema) (p : Plan) (ms : List Move) → Scans s p ms g → HasRead (length (plan_leaves p)) ms row
+    → IsOfLeaf (length (plan_leaves p)) (move_view m) → Scans s p (ms ++ move_view m ∷ []) g'
 
 -- how many branches are open for its condition
 abbrev pub open_in_scan : PlanScan → ℕ

@@ -1,12 +1,15 @@
 -- What is taken of a row, by what was read last of each leaf, and at which leaf a row fires.
-use Rattle.std.specs.Prelude.{ℕ, suc, List, [], ◌∷◌, ◌++◌, map, Bool, true, false, ◌==◌, if◌then◌else◌, Option, Some, None}
+use Rattle.std.specs.Prelude.{ℕ, suc, List, [], ◌∷◌, ◌++◌, map, Bool, true, false, ◌==◌, if◌then◌else◌, Option, Some, None, ◌≡◌}
 use Rattle.dr_meaning.specs.Record.{Value}
 use Rattle.dr_moves.specs.Context.{Context}
 use Rattle.dr_partials.specs.Putting.{Taken, Put}
+use Rattle.dr_levels.specs.declared.triplet.ValueRef.{ValueRef}
 use Rattle.dr_plan.specs.declared.aggregate.Aggregate.{Aggregate}
 use Rattle.dr_plan.specs.declared.expression.Expr.{Expr}
 use Rattle.dr_scalar.specs.OverSlots.{expr_over}
+use Rattle.dr_scalar.specs.Slots.{slot_value}
 use Rattle.dr_scalar.specs.Leaves.{expr_leaves, greatest}
+use Rattle.dr_group.specs.Views.{lent_cell}
 use Rattle.dr_within.specs.declared.taking.Taking.{Taking}
 
 -- what is taken of each of some rows: nothing, the row, or the value of an expression in it; each for the aggregate of a number
@@ -48,6 +51,18 @@ put_read keys t c = record { keys = map c keys; taken = taken_with t (value_read
 -- for each of some takings
 abbrev pub all_read : List ℕ → List Take → Context → List Put
 all_read keys ts c = map (λ (t : Take). put_read keys t c) ts
+
+-- for a taking, with what was read last of each leaf
+abbrev pub put_with : List ℕ → Taking → List (Option ValueRef) → Put
+put_with keys t slots = put_read keys (taking_view t) (slot_value slots)
+
+-- and for each of some takings
+abbrev pub puts_with : List ℕ → List Taking → List (Option ValueRef) → List Put
+puts_with keys ts slots = all_read keys (takings_view ts) (slot_value slots)
+
+-- a key tuple has what was read last of these leaves
+abbrev pub IsKeyOf : List (Option ValueRef) → List (Option ValueRef) → List ℕ → Type 0
+IsKeyOf key slots keys = map lent_cell key ≡ map (slot_value slots) keys
 
 -- how many needn't be put: nothing before others, which make the group as well
 abbrev pub needless : List Take → ℕ

@@ -1,12 +1,12 @@
 //! Objects that were built in a branch, held as cells.
 
-ghost use Rattle.std.specs.Prelude.{◌≡◌, ◌+◌, ◌++◌, ◌∷◌, [], List, map, length, IfOk, IfSome, OnOk};
+ghost use Rattle.std.specs.Prelude.{◌≡◌, ◌+◌, ◌++◌, [], List, map, length, IfOk, IfSome, OnOk};
 ghost use Rattle.dr_meaning.specs.Query.{Object};
 ghost use Rattle.dr_made_laws.specs.ObjectFlow.{Made, built, objects_for};
 ghost use Rattle.dr_made_laws.specs.ObjectFlowLaws.{made_objects};
-ghost use Rattle.dr_cells.specs.Results.{object_cells, result_cells};
+ghost use Rattle.dr_cells.specs.Results.{result_cells};
 ghost use Rattle.dr_cells.specs.Views.{cells_view};
-ghost use Rattle.dr_within.specs.ObjectFraming.{built_in, IsRun, AreRuns, HoldsBuilt};
+ghost use Rattle.dr_within.specs.ObjectFraming.{IsRun, AreRuns, HoldsBuilt, AddsObject};
 
 use crate::copying::push_cells;
 use dr_cells::Cells;
@@ -91,9 +91,7 @@ impl Built {
     ///
     /// Errors: want of memory, or of room for a count.
     pub(crate) fn add_object(&mut self, level: u32, first: usize) -> Result<(), NoMemory>
-        ensures { OnOk result ((made : List Made) (o : Object) → AreRuns (self.old).runs.items (built_in made)
-            → cells_view (self.old).cells ≡ result_cells (made_objects made) ++ object_cells o
-            → first ≡ length (result_cells (made_objects made)) → HoldsBuilt (made ++ built level o ∷ []) self.new) }
+        ensures { OnOk result (AddsObject level first self.old self.new) }
     {
         let cells = self.cells.len().saturating_sub(first);
         add_run(

@@ -1,13 +1,11 @@
 //! What was made in the branches that are open.
 
-ghost use Rattle.std.specs.Prelude.{◌≡◌, ◌++◌, ◌∷◌, [], List, ℕ, Bool, true, false, length, map, take, reverse, IfOk, OnOk, if◌then◌else◌};
-ghost use Rattle.dr_partials.specs.Partials.{empty_partial};
+ghost use Rattle.std.specs.Prelude.{◌≡◌, [], List, ℕ, Bool, length, IfOk, OnOk};
 ghost use Rattle.dr_partials.specs.Putting.{Put, put_all};
-ghost use Rattle.dr_plan.specs.Planned.{Planned, plan_view, planned_query};
-ghost use Rattle.dr_group.specs.Partials.{partial_view, IsPartialOf};
-ghost use Rattle.dr_scalar.specs.Slots.{slot_value};
-ghost use Rattle.dr_within.specs.Takings.{all_read, takings_view};
-ghost use Rattle.dr_within.specs.Framing.{Holds, StaySettled, AllSettled};
+ghost use Rattle.dr_plan.specs.Planned.{Planned, plan_view};
+ghost use Rattle.dr_group.specs.Partials.{IsPartialOf, IsOfPuts};
+ghost use Rattle.dr_within.specs.Takings.{puts_with};
+ghost use Rattle.dr_within.specs.Framing.{Holds, EntersBranch, MakesPuts, LeavesBranch};
 
 use crate::late::LateRows;
 use crate::putting::{keep_each, put_each};
@@ -55,8 +53,7 @@ impl Frames {
     /// Errors: want of memory alone.
     #[inline(always)]
     pub(crate) fn enter(&mut self) -> Result<(), NoMemory>
-        ensures { OnOk result ((p : Planned) (n : ℕ) (made : List Put) (settled : List Bool) (marks : List ℕ) (b : Bool)
-            → Holds p n made settled marks self.old → Holds p n made (b ∷ settled) (length made ∷ marks) self.new) }
+        ensures { OnOk result (EntersBranch self.old self.new) }
     {
         self.marks.push(self.late.len())?;
         Ok(())
@@ -76,12 +73,8 @@ impl Frames {
         key: &mut Vec<Option<ValueRef<'a>>>,
         is_kept: bool,
     ) -> Result<(), NoMemory>
-        ensures rows { OnOk result ((p : Planned) (made : List Put) (settled later : List Bool) (marks : List ℕ)
-            → Holds p (length keys.now) made settled marks self.old → StaySettled settled later
-            → (is_kept ≡ true → AllSettled later)
-            → Holds p (length keys.now) (made
-            ++ all_read keys.now (takings_view takings.now) (slot_value slots.now)) later marks
-            self.new) }
+        ensures rows { OnOk result (MakesPuts is_kept (length keys.now) (puts_with keys.now takings.now slots.now)
+            self.old self.new) }
         ensures marks { (self.new).marks ≡ (self.old).marks }
     {
         if is_kept {
@@ -105,12 +98,8 @@ impl Frames {
         key: &mut Vec<Option<ValueRef<'a>>>,
         is_dropped: bool,
     ) -> Result<(), NoMemory>
-        ensures left { OnOk result ((p : Planned) (made : List Put) (b : Bool) (settled : List Bool) (mark : ℕ)
-            (marks : List ℕ) → Holds p (length keys.now) made (b ∷ settled) (mark ∷ marks) self.old
-            → (is_dropped ≡ true → b ≡ false) → Holds p (length keys.now)
-            (if is_dropped then take mark made else made
-            ++ all_read keys.now (takings_view takings.now) (slot_value slots.now))
-            settled marks self.new) }
+        ensures left { OnOk result (LeavesBranch is_dropped (length keys.now) (puts_with keys.now takings.now slots.now)
+            self.old self.new) }
         ensures none { OnOk result ((p : Planned) (made : List Put)
             → Holds p (length keys.now) made [] [] self.old → Holds p (length keys.now) made [] [] self.new) }
     {
@@ -130,9 +119,7 @@ impl Frames {
     /// Errors: want of memory, or of room for a count, a sum or a number of a group.
     pub(crate) fn close(self, alloc: Global) -> Result<Partial, NoMemory>
         ensures partial { IfOk result (λ x. (p : Planned) (n : ℕ) (made : List Put) (settled : List Bool)
-            (marks : List ℕ)
-            → Holds p n made settled marks self → partial_view x
-            ≡ put_all (planned_query p) made (empty_partial (planned_query p))) }
+            (marks : List ℕ) → Holds p n made settled marks self → IsOfPuts p made x) }
         ensures of_plan { IfOk result (λ x. (p : Planned) → IsPartialOf p self.partial → IsPartialOf p x) }
     {
         let mut late = self.late;

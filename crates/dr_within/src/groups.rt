@@ -1,17 +1,14 @@
 //! The groups of a plan, made along a walk.
 
-ghost use Rattle.std.specs.Prelude.{◌≡◌, ◌<◌, ◌++◌, ◌∷◌, [], ℕ, List, length, IfOk, OnOk};
+ghost use Rattle.std.specs.Prelude.{◌≡◌, ◌<◌, ◌++◌, ◌∷◌, [], ℕ, List, IfOk, OnOk};
 ghost use Rattle.dr_levels.specs.Views.{move_view};
 ghost use Rattle.dr_meaning.specs.Path.{Leaf};
 ghost use Rattle.dr_meaning.specs.Walk.{Move as MeantMove};
-ghost use Rattle.dr_partials.specs.Partials.{empty_partial};
-ghost use Rattle.dr_partials.specs.Putting.{put_all};
-ghost use Rattle.dr_plan.specs.Planned.{Planned, plan_view, plan_leaves, planned_query};
-ghost use Rattle.dr_group.specs.Partials.{partial_view, IsPartialOf};
+ghost use Rattle.dr_plan.specs.Planned.{Planned, plan_view, plan_leaves};
+ghost use Rattle.dr_group.specs.Partials.{IsPartialOf, IsOfPuts};
 ghost use Rattle.dr_condition.specs.Conditions.{open_for, watch_in, HasWatched};
 ghost use Rattle.dr_within.specs.Takings.{Take, takings_of};
-ghost use Rattle.dr_within.specs.Firings.{firing_in};
-ghost use Rattle.dr_within.specs.Behind.{IsBehind, frames_behind, readings_at};
+ghost use Rattle.dr_within.specs.Behind.{IsBehind, GoesBehind, puts_behind};
 ghost use Rattle.dr_within.specs.Rows.{HasRead, IsOfLeaf};
 
 use crate::firing::Firing;
@@ -71,9 +68,7 @@ impl<'a> GroupScan<'a> {
         row: &mut Row<'r>,
     ) -> Result<(), NoMemory>
         requires few { open_for (self.old).condition < 64 }
-        ensures behind { OnOk result ((p : Planned) (ls : List Leaf) (ts : List Take) (ms : List MeantMove)
-            → IsBehind p ls ts ms self.old → HasRead (length ls) ms row.old
-            → IsOfLeaf (length ls) (move_view read.now) → IsBehind p ls ts (ms ++ move_view read.now ∷ []) self.new) }
+        ensures behind { OnOk result (GoesBehind row.old read.now self.old self.new) }
         ensures reads { (n : ℕ) (ms : List MeantMove) → HasRead n ms row.old → IsOfLeaf n (move_view read.now)
             → HasRead n (ms ++ move_view read.now ∷ []) row.new }
         ensures watches { watch_in (self.new).condition ≡ watch_in (self.old).condition }
@@ -107,9 +102,7 @@ impl<'a> GroupScan<'a> {
     /// Errors: want of memory, or of room for a count, a sum or a number of a group.
     pub fn close(self, alloc: Global) -> Result<Partial, NoMemory>
         ensures partial { IfOk result (λ x. (p : Planned) (ls : List Leaf) (ts : List Take) (ms : List MeantMove)
-            → IsBehind p ls ts ms self.entry → partial_view x ≡ put_all (planned_query p)
-            (frames_behind (watch_in (self.entry).condition) (readings_at ls (self.entry).keys.now ts) ms).made
-            (empty_partial (planned_query p))) }
+            → IsBehind p ls ts ms self.entry → IsOfPuts p (puts_behind ls ts self.entry ms) x) }
         ensures of_plan { IfOk result (λ x. (p : Planned) (ls : List Leaf) (ts : List Take)
             (ms : List MeantMove) → IsBehind p ls ts ms self.entry → IsPartialOf p x) }
     {

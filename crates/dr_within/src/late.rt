@@ -2,7 +2,7 @@
 
 ghost use Rattle.std.specs.Prelude.{◌≡◌, ◌++◌, ◌∷◌, [], length, take, OnOk, true};
 ghost use Rattle.dr_cells.specs.Views.{cells_view};
-ghost use Rattle.dr_group.specs.Partials.{partial_view, IsPartialOf};
+ghost use Rattle.dr_group.specs.Partials.{partial_view, IsPartialOf, TakesPuts};
 ghost use Rattle.dr_partials.specs.Putting.{put_all};
 ghost use Rattle.dr_plan.specs.Planned.{Planned, planned_query};
 ghost use Rattle.dr_scalar.specs.Slots.{slot_value};
@@ -149,9 +149,8 @@ fn put_rows(
     taken: &Cells,
     partial: &mut Partial,
 ) -> Result<(), NoMemory>
-    ensures puts { OnOk result ((p : Planned) → IsPartialOf p partial.old → partial_view partial.new
-        ≡ put_all (planned_query p) (puts_view width (cells_view cells.now) aggregates.now (cells_view taken.now))
-        (partial_view partial.old)) }
+    ensures puts { OnOk result (TakesPuts (puts_view width (cells_view cells.now) aggregates.now (cells_view taken.now))
+        partial.old partial.new) }
     ensures of_plan { (p : Planned) → IsPartialOf p partial.old → IsPartialOf p partial.new }
 {
     let mut key = Vec::new(alloc);

@@ -1,14 +1,13 @@
 //! The levels of a record query, by the numbers of the repeated fields.
 
-ghost use Rattle.std.specs.Prelude.{◌≡◌, ◌<◌, List, map, length, IfOk, OnOk};
-ghost use Rattle.dr_meaning.specs.Query.{RecordItem, levels_of};
+ghost use Rattle.std.specs.Prelude.{◌≡◌, ◌<◌, map, length, IfOk, OnOk};
 ghost use Rattle.dr_nested.specs.PathView.{step_view};
 ghost use Rattle.dr_nested.specs.Views.{fields_view};
-ghost use Rattle.dr_plan.specs.Objects.{object_tree_of, object_view};
+ghost use Rattle.dr_plan.specs.Objects.{object_view};
 ghost use Rattle.dr_cells.specs.PlanShapes.{plan_lists_view};
 ghost use Rattle.dr_within.specs.LevelTable as meant;
 ghost use Rattle.dr_within.specs.LevelTable.{
-  AreLevels,
+  HasLevelsOf,
   lent_level,
   level_in,
   level_row,
@@ -138,9 +137,7 @@ impl Levels {
         schema: &Schema,
         object: &ObjectPlan,
     ) -> Result<Levels, NoMemory>
-        ensures { IfOk result (λ t. (items : List RecordItem) → object_view object.now
-            ≡ object_tree_of (fields_view (schema.now).fields.items) items
-            → AreLevels items (levels_of (fields_view (schema.now).fields.items)) t) }
+        ensures { IfOk result (HasLevelsOf (fields_view (schema.now).fields.items) (object_view object.now)) }
     {
         let mut rows = Vec::new(alloc);
         add_object(alloc, schema, 0, object, &mut rows)?;

@@ -1,17 +1,14 @@
 //! What was made of a record query in one branch.
 
-ghost use Rattle.std.specs.Prelude.{◌≡◌, ◌++◌, ◌∷◌, [], ℕ, suc, List, Some, option_map, OnOk};
-ghost use Rattle.std.specs.Borrow.{Bor};
-ghost use Rattle.dr_cells.specs.Results.{object_cells};
+ghost use Rattle.std.specs.Prelude.{◌≡◌, ◌++◌, [], List, Some, OnOk};
 ghost use Rattle.dr_cells.specs.Views.{cells_view};
-ghost use Rattle.dr_meaning.specs.Path.{Leaf};
-ghost use Rattle.dr_meaning.specs.Query.{Levels, RecordItem as MeantItem};
-ghost use Rattle.dr_made_laws.specs.ObjectFlow.{Level as MeantLevel, Made, ReadItem, items_of, left_items, object_made, seen_items};
+ghost use Rattle.dr_meaning.specs.Query.{RecordItem as MeantItem};
+ghost use Rattle.dr_made_laws.specs.ObjectFlow.{Made};
 ghost use Rattle.dr_scalar.specs.Slots.{slot_value};
 ghost use Rattle.dr_within.specs.declared.levels.Level.{Level};
-ghost use Rattle.dr_within.specs.ObjectFraming.{fired_places, AreReadItems, HoldsBuilt, HoldsFrame};
-ghost use Rattle.dr_within.specs.ObjectLevels.{IsLevel, IsLevelAt};
-ghost use Rattle.dr_within.specs.OwnCells.{list_cells, list_counts, taken_at};
+ghost use Rattle.dr_within.specs.ObjectFraming.{HoldsBuilt, HoldsFrame, JoinsObject, TakesItem, TakesItems, TakesBranch};
+ghost use Rattle.dr_within.specs.LevelTable.{lent_level};
+ghost use Rattle.dr_within.specs.OwnCells.{list_cells, list_counts};
 
 use crate::built::Built;
 use crate::levels::Level;
@@ -63,10 +60,7 @@ fn push_object(
     inner: &ObjectFrame,
     cells: &mut Cells,
 ) -> Result<(), NoMemory>
-    ensures { OnOk result ((ls : List Leaf) (rs : List ReadItem) (made : List Made) (k : ℕ) (m : MeantLevel)
-        → AreReadItems ls items.now rs → HoldsFrame (items_of rs) made inner.now → IsLevel (items_of rs) k m level.now
-        → cells_view cells.new
-        ≡ cells_view cells.old ++ object_cells (object_made rs (suc k) m (slot_value slots.now) made)) }
+    ensures { OnOk result (JoinsObject items.now level.now (slot_value slots.now) inner.now cells.old cells.new) }
 {
     push_own(alloc, items, &level.items, slots, &inner.values, cells)?;
     push_counts(&level.lists, &inner.built, cells)?;
@@ -102,9 +96,7 @@ impl ObjectFrame {
         place: u32,
         slots: &[Option<ValueRef<'_>>],
     ) -> Result<(), NoMemory>
-        ensures { OnOk result ((ls : List Leaf) (rs : List ReadItem) (made : List Made) → AreReadItems ls items.now rs
-            → HoldsFrame (items_of rs) made self.old
-            → HoldsFrame (items_of rs) (made ++ taken_at rs (slot_value slots.now) place) self.new) }
+        ensures { OnOk result (TakesItem items.now place (slot_value slots.now) self.old self.new) }
     {
         let Some(item) = items.get(place as usize) else {
             return Ok(());
@@ -129,9 +121,7 @@ impl ObjectFrame {
         places: &[u32],
         slots: &[Option<ValueRef<'_>>],
     ) -> Result<(), NoMemory>
-        ensures { OnOk result ((ls : List Leaf) (rs : List ReadItem) (i : ℕ) (made : List Made)
-            → AreReadItems ls items.now rs → places.now ≡ fired_places 0 rs i → HoldsFrame (items_of rs) made self.old
-            → HoldsFrame (items_of rs) (made ++ seen_items rs i (slot_value slots.now)) self.new) }
+        ensures { OnOk result (TakesItems items.now places.now (slot_value slots.now) self.old self.new) }
     {
         'places: for place in places {
             self.take_one(alloc, items, *place, slots)?;
@@ -149,10 +139,8 @@ impl ObjectFrame {
         slots: &[Option<ValueRef<'_>>],
         inner: &ObjectFrame,
     ) -> Result<(), NoMemory>
-        ensures { OnOk result ((ls : List Leaf) (rs : List ReadItem) (levels : Levels) (made more : List Made)
-            → AreReadItems ls items.now rs → IsLevelAt (items_of rs) levels number (Some level.now)
-            → HoldsFrame (items_of rs) made self.old → HoldsFrame (items_of rs) more inner.now
-            → HoldsFrame (items_of rs) (made ++ left_items rs levels number (slot_value slots.now) more) self.new) }
+        ensures { OnOk result (TakesBranch items.now number (Some level.now) (slot_value slots.now) inner.now self.old
+            self.new) }
     {
         let first = self.built.cells.len();
         push_object(alloc, items, level, slots, inner, &mut self.built.cells)?;
@@ -185,11 +173,8 @@ impl ObjectFrame {
         slots: &[Option<ValueRef<'_>>],
         inner: &ObjectFrame,
     ) -> Result<(), NoMemory>
-        ensures { OnOk result ((ls : List Leaf) (rs : List ReadItem) (levels : Levels) (made more : List Made)
-            → AreReadItems ls items.now rs
-            → IsLevelAt (items_of rs) levels number (option_map (λ (l : Bor Level). l.now) level.entry)
-            → HoldsFrame (items_of rs) made self.old → HoldsFrame (items_of rs) more inner.now
-            → HoldsFrame (items_of rs) (made ++ left_items rs levels number (slot_value slots.now) more) self.new) }
+        ensures { OnOk result (TakesBranch items.now number (lent_level level.entry) (slot_value slots.now) inner.now
+            self.old self.new) }
     {
         match level {
             Some(level) => self.build(alloc, items, level, number, slots, inner),

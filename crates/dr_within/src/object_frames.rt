@@ -1,18 +1,16 @@
 //! What was made of a record query in the branches that are open.
 
-ghost use Rattle.std.specs.Prelude.{◌≡◌, ◌++◌, ◌∷◌, [], ℕ, List, length, take, drop, option_map, if◌then◌else◌, IfOk, OnOk};
-ghost use Rattle.std.specs.Borrow.{Bor};
+ghost use Rattle.std.specs.Prelude.{◌≡◌, ◌∷◌, [], ℕ, List, length, take, IfOk, OnOk};
 ghost use Rattle.dr_cells.specs.Results.{AllFitShape};
 ghost use Rattle.dr_cells.specs.Rows.{rows_shape, rows_view};
 ghost use Rattle.dr_cells.specs.Shapes.{shape_view};
-ghost use Rattle.dr_meaning.specs.Path.{Leaf};
-ghost use Rattle.dr_meaning.specs.Query.{Levels, RecordItem as MeantItem};
-ghost use Rattle.dr_made_laws.specs.ObjectFlow.{Made, ReadItem, items_of, left_items, seen_items};
+ghost use Rattle.dr_meaning.specs.Query.{RecordItem as MeantItem};
+ghost use Rattle.dr_made_laws.specs.ObjectFlow.{Made};
 ghost use Rattle.dr_made_laws.specs.ObjectFlowLaws.{made_objects};
 ghost use Rattle.dr_scalar.specs.Slots.{slot_value};
 ghost use Rattle.dr_within.specs.declared.levels.Level.{Level};
-ghost use Rattle.dr_within.specs.ObjectFraming.{fired_places, AreReadItems, ClosesAs, HoldsObjects};
-ghost use Rattle.dr_within.specs.ObjectLevels.{IsLevelAt};
+ghost use Rattle.dr_within.specs.ObjectFraming.{ClosesAs, HoldsObjects, TakesItemsInside, LeavesObjects};
+ghost use Rattle.dr_within.specs.LevelTable.{lent_level};
 
 use crate::levels::Level;
 use crate::object_frame::ObjectFrame;
@@ -85,10 +83,7 @@ impl ObjectFrames {
         places: &[u32],
         slots: &[Option<ValueRef<'_>>],
     ) -> Result<(), NoMemory>
-        ensures { OnOk result ((ls : List Leaf) (rs : List ReadItem) (i : ℕ) (made : List Made) (marks : List ℕ)
-            → AreReadItems ls items.now rs → places.now ≡ fired_places 0 rs i
-            → HoldsObjects (items_of rs) made marks self.old
-            → HoldsObjects (items_of rs) (made ++ seen_items rs i (slot_value slots.now)) marks self.new) }
+        ensures { OnOk result (TakesItemsInside items.now places.now (slot_value slots.now) self.old self.new) }
     {
         self.inner.take(alloc, items, places, slots)
     }
@@ -109,12 +104,8 @@ impl ObjectFrames {
         slots: &[Option<ValueRef<'_>>],
         is_dropped: bool,
     ) -> Result<(), NoMemory>
-        ensures left { OnOk result ((ls : List Leaf) (rs : List ReadItem) (levels : Levels) (made : List Made)
-            (mark : ℕ) (marks : List ℕ) → AreReadItems ls items.now rs
-            → IsLevelAt (items_of rs) levels number (option_map (λ (l : Bor Level). l.now) level.entry)
-            → HoldsObjects (items_of rs) made (mark ∷ marks) self.old → HoldsObjects (items_of rs)
-            (if is_dropped then take mark made else take mark made ++ left_items rs levels number
-            (slot_value slots.now) (drop mark made)) marks self.new) }
+        ensures left { OnOk result (LeavesObjects is_dropped items.now number (lent_level level.entry)
+            (slot_value slots.now) self.old self.new) }
         ensures none { OnOk result ((items : List MeantItem) (made : List Made)
             → HoldsObjects items made [] self.old → HoldsObjects items made [] self.new) }
     {

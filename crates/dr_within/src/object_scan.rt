@@ -1,22 +1,20 @@
 //! The scan of a plan of objects.
 
-ghost use Rattle.std.specs.Prelude.{◌≡◌, ◌<◌, ◌++◌, ◌∷◌, [], ℕ, List, length, true, IfOk, OnOk, OnErr, IsErr};
+ghost use Rattle.std.specs.Prelude.{◌≡◌, ◌<◌, ◌++◌, ◌∷◌, [], ℕ, List, true, IfOk, OnOk, OnErr, IsErr};
 ghost use Rattle.std.specs.List.{list_all};
 ghost use Rattle.dr_levels.specs.Views.{move_view};
 ghost use Rattle.dr_nested.specs.SchemaView.{schema_view};
-ghost use Rattle.dr_meaning.specs.Path.{paths_of_leaves};
 ghost use Rattle.dr_meaning.specs.Record.{Node, is_record};
 ghost use Rattle.dr_meaning.specs.Schema.{Schema as MeantSchema};
-ghost use Rattle.dr_meaning.specs.Walk.{Move as MeantMove, walk};
-ghost use Rattle.dr_partials.specs.Partials as partials;
-ghost use Rattle.dr_plan.specs.Planned.{IsOfSchema, plan_leaves, plan_view, planned_query};
+ghost use Rattle.dr_meaning.specs.Walk.{Move as MeantMove};
+ghost use Rattle.dr_plan.specs.Planned.{IsOfSchema, plan_view};
 ghost use Rattle.dr_plan.specs.declared.plan.Plan.{Plan as MeantPlan};
 ghost use Rattle.dr_plan.specs.declared.plan.Selection.{Selection as Selected};
-ghost use Rattle.dr_group.specs.Partials.{partial_view, IsPartialOf};
+ghost use Rattle.dr_group.specs.Partials.{IsPartialOf, IsOfRecords};
 ghost use Rattle.dr_condition.specs.Conditions.{watch_in, HasWatched};
 ghost use Rattle.dr_condition.specs.PlanConditions.{WatchesPlan};
-ghost use Rattle.dr_within.specs.Rows.{HasRead, IsOfLeaf};
-ghost use Rattle.dr_within.specs.ObjectScanning.{ScansObjects, BeginsObjects, HasScannedAll, open_in_objects, failed_in_objects};
+ghost use Rattle.dr_within.specs.Rows.{HasRead, IsOfLeaf, plan_walk};
+ghost use Rattle.dr_within.specs.ObjectScanning.{ScansObjects, BeginsObjects, HasScannedAll, open_in_objects, failed_in_objects, ScansNextObjects};
 
 use crate::failed::unless_failed;
 use crate::item_firing::ItemFiring;
@@ -111,10 +109,7 @@ impl<'a> ObjectScan<'a> {
         row: &mut Row<'r>,
     ) -> Result<(), NoMemory>
         requires few { open_in_objects self.old < 64 }
-        ensures scans { OnOk result ((s : MeantSchema) (p : MeantPlan) (ms : List MeantMove)
-            → ScansObjects s p ms self.old → HasRead (length (plan_leaves p)) ms row.old
-            → IsOfLeaf (length (plan_leaves p)) (move_view read.now)
-            → ScansObjects s p (ms ++ move_view read.now ∷ []) self.new) }
+        ensures scans { OnOk result (ScansNextObjects row.old read.now self.old self.new) }
         ensures reads { (n : ℕ) (ms : List MeantMove) → HasRead n ms row.old → IsOfLeaf n (move_view read.now)
             → HasRead n (ms ++ move_view read.now ∷ []) row.new }
         ensures again { failed_in_objects self.old ≡ true → IsErr result }
@@ -142,10 +137,7 @@ impl<'a> ObjectScan<'a> {
         row: &mut Row<'r>,
     ) -> Result<(), NoMemory>
         requires few { open_in_objects self.old < 64 }
-        ensures scans { OnOk result ((s : MeantSchema) (p : MeantPlan) (ms : List MeantMove)
-            → ScansObjects s p ms self.old → HasRead (length (plan_leaves p)) ms row.old
-            → IsOfLeaf (length (plan_leaves p)) (move_view read.now)
-            → ScansObjects s p (ms ++ move_view read.now ∷ []) self.new) }
+        ensures scans { OnOk result (ScansNextObjects row.old read.now self.old self.new) }
         ensures reads { (n : ℕ) (ms : List MeantMove) → HasRead n ms row.old → IsOfLeaf n (move_view read.now)
             → HasRead n (ms ++ move_view read.now ∷ []) row.new }
     {
@@ -174,9 +166,8 @@ impl<'a> ObjectScan<'a> {
     pub fn close(self) -> Result<Partial, NoMemory>
         requires all { HasScannedAll self }
         ensures partial { IfOk result (λ x. (s : MeantSchema) (p : MeantPlan) (R : List Node) → IsOfSchema s p
-            → list_all (is_record s.fields) R ≡ true
-            → ScansObjects s p (walk s.fields (paths_of_leaves (plan_leaves p)) R) self.entry
-            → partial_view x ≡ partials.partial_of s.fields (planned_query (plan_view p)) R) }
+            → list_all (is_record s.fields) R ≡ true → ScansObjects s p (plan_walk s p R) self.entry
+            → IsOfRecords s p R x) }
         ensures of_plan { IfOk result (λ x. (s : MeantSchema) (p : MeantPlan) (ms : List MeantMove)
             → ScansObjects s p ms self.entry → IsPartialOf (plan_view p) x) }
         ensures refused { failed_in_objects self.entry ≡ true → IsErr result }

@@ -1,20 +1,18 @@
 //! The scan of a plan of groups.
 
-ghost use Rattle.std.specs.Prelude.{◌≡◌, ◌<◌, ◌++◌, ◌∷◌, [], ℕ, List, length, true, IfOk, OnOk, OnErr, IsErr};
+ghost use Rattle.std.specs.Prelude.{◌≡◌, ◌<◌, ◌++◌, ◌∷◌, [], ℕ, List, true, IfOk, OnOk, OnErr, IsErr};
 ghost use Rattle.std.specs.List.{list_all};
 ghost use Rattle.dr_levels.specs.Views.{move_view};
 ghost use Rattle.dr_nested.specs.SchemaView.{schema_view};
-ghost use Rattle.dr_meaning.specs.Path.{paths_of_leaves};
 ghost use Rattle.dr_meaning.specs.Record.{Node, is_record};
 ghost use Rattle.dr_meaning.specs.Schema.{Schema as MeantSchema};
-ghost use Rattle.dr_meaning.specs.Walk.{Move as MeantMove, walk};
-ghost use Rattle.dr_partials.specs.Partials as partials;
-ghost use Rattle.dr_plan.specs.Planned.{IsOfSchema, plan_leaves, plan_view, planned_query};
+ghost use Rattle.dr_meaning.specs.Walk.{Move as MeantMove};
+ghost use Rattle.dr_plan.specs.Planned.{IsOfSchema, plan_view};
 ghost use Rattle.dr_plan.specs.declared.plan.Plan.{Plan as MeantPlan};
 ghost use Rattle.dr_plan.specs.declared.plan.Selection.{Selection as Selected};
-ghost use Rattle.dr_group.specs.Partials.{partial_view, IsPartialOf};
-ghost use Rattle.dr_within.specs.Scanning.{Scans, Begins, open_in_scan, failed_in_scan};
-ghost use Rattle.dr_within.specs.Rows.{HasRead, IsOfLeaf};
+ghost use Rattle.dr_group.specs.Partials.{IsPartialOf, IsOfRecords};
+ghost use Rattle.dr_within.specs.Scanning.{Scans, Begins, open_in_scan, failed_in_scan, ScansNext};
+ghost use Rattle.dr_within.specs.Rows.{HasRead, IsOfLeaf, plan_walk};
 
 use crate::failed::unless_failed;
 use crate::groups::GroupScan;
@@ -76,9 +74,7 @@ impl<'a> PlanScan<'a> {
         row: &mut Row<'r>,
     ) -> Result<(), NoMemory>
         requires few { open_in_scan self.old < 64 }
-        ensures scans { OnOk result ((s : MeantSchema) (p : MeantPlan) (ms : List MeantMove) → Scans s p ms self.old
-            → HasRead (length (plan_leaves p)) ms row.old → IsOfLeaf (length (plan_leaves p)) (move_view read.now)
-            → Scans s p (ms ++ move_view read.now ∷ []) self.new) }
+        ensures scans { OnOk result (ScansNext row.old read.now self.old self.new) }
         ensures reads { (n : ℕ) (ms : List MeantMove) → HasRead n ms row.old → IsOfLeaf n (move_view read.now)
             → HasRead n (ms ++ move_view read.now ∷ []) row.new }
         ensures again { failed_in_scan self.old ≡ true → IsErr result }
@@ -102,9 +98,7 @@ impl<'a> PlanScan<'a> {
     /// Errors: a move was refused; want of memory, or of room for a count, a sum or a number of a group.
     pub fn close(self, alloc: Global) -> Result<Partial, NoMemory>
         ensures partial { IfOk result (λ x. (s : MeantSchema) (p : MeantPlan) (R : List Node) → IsOfSchema s p
-            → list_all (is_record s.fields) R ≡ true
-            → Scans s p (walk s.fields (paths_of_leaves (plan_leaves p)) R) self.entry
-            → partial_view x ≡ partials.partial_of s.fields (planned_query (plan_view p)) R) }
+            → list_all (is_record s.fields) R ≡ true → Scans s p (plan_walk s p R) self.entry → IsOfRecords s p R x) }
         ensures of_plan { IfOk result (λ x. (s : MeantSchema) (p : MeantPlan) (ms : List MeantMove)
             → Scans s p ms self.entry
             → IsPartialOf (plan_view p) x) }

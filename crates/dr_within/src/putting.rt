@@ -1,12 +1,10 @@
 //! What fires together.
 
-ghost use Rattle.std.specs.Prelude.{◌≡◌, ◌++◌, ℕ, List, length, map, OnOk};
-ghost use Rattle.dr_group.specs.Partials.{partial_view, IsPartialOf};
-ghost use Rattle.dr_partials.specs.Putting.{put, put_all};
-ghost use Rattle.dr_plan.specs.Planned.{Planned, planned_query};
-ghost use Rattle.dr_scalar.specs.Slots.{slot_value};
-ghost use Rattle.dr_group.specs.Views.{lent_cell};
-ghost use Rattle.dr_within.specs.Takings.{taking_view, takings_view, put_read, all_read, needless as meant_needless};
+ghost use Rattle.std.specs.Prelude.{◌≡◌, ◌++◌, ℕ, List, length, OnOk};
+ghost use Rattle.dr_group.specs.Partials.{IsPartialOf, HasTaken, HasTakenOne, TakesPuts};
+ghost use Rattle.dr_partials.specs.Putting.{put};
+ghost use Rattle.dr_plan.specs.Planned.{Planned};
+ghost use Rattle.dr_within.specs.Takings.{takings_view, needless as meant_needless, puts_with, IsKeyOf, put_with};
 ghost use Rattle.dr_within.specs.Late.{IsWhole, rows_of};
 
 use crate::keys::push_key;
@@ -25,10 +23,8 @@ fn put_computed<'a>(
     key: &[Option<ValueRef<'a>>],
     partial: &mut Partial,
 ) -> Result<(), NoMemory>
-    ensures puts { OnOk result ((p : Planned) (keys : List ℕ) → map lent_cell key.now
-        ≡ map (slot_value slots.now) keys → IsPartialOf p partial.old → partial_view partial.new
-        ≡ put (planned_query p) (put_read keys (taking_view taking.entry) (slot_value slots.now))
-        (partial_view partial.old)) }
+    ensures puts { OnOk result ((p : Planned) (keys : List ℕ) → IsKeyOf key.now slots.now keys
+        → IsPartialOf p partial.old → HasTakenOne p (put_with keys taking.entry slots.now) partial.old partial.new) }
     ensures of_plan { (p : Planned) → IsPartialOf p partial.old → IsPartialOf p partial.new }
 {
     let value = value_of(alloc, taking, slots)?;
@@ -44,10 +40,8 @@ fn put_one<'a>(
     key: &[Option<ValueRef<'a>>],
     partial: &mut Partial,
 ) -> Result<(), NoMemory>
-    ensures puts { OnOk result ((p : Planned) (keys : List ℕ) → map lent_cell key.now
-        ≡ map (slot_value slots.now) keys → IsPartialOf p partial.old → partial_view partial.new
-        ≡ put (planned_query p) (put_read keys (taking_view taking.entry) (slot_value slots.now))
-        (partial_view partial.old)) }
+    ensures puts { OnOk result ((p : Planned) (keys : List ℕ) → IsKeyOf key.now slots.now keys
+        → IsPartialOf p partial.old → HasTakenOne p (put_with keys taking.entry slots.now) partial.old partial.new) }
     ensures of_plan { (p : Planned) → IsPartialOf p partial.old → IsPartialOf p partial.new }
 {
     match read_of(taking, slots) {
@@ -76,10 +70,8 @@ fn put_in_order<'a>(
     key: &[Option<ValueRef<'a>>],
     partial: &mut Partial,
 ) -> Result<(), NoMemory>
-    ensures puts { OnOk result ((p : Planned) (keys : List ℕ) → map lent_cell key.now
-        ≡ map (slot_value slots.now) keys → IsPartialOf p partial.old → partial_view partial.new
-        ≡ put_all (planned_query p) (all_read keys (takings_view takings.now) (slot_value slots.now))
-        (partial_view partial.old)) }
+    ensures puts { OnOk result ((p : Planned) (keys : List ℕ) → IsKeyOf key.now slots.now keys
+        → IsPartialOf p partial.old → HasTaken p (puts_with keys takings.now slots.now) partial.old partial.new) }
     ensures of_plan { (p : Planned) → IsPartialOf p partial.old → IsPartialOf p partial.new }
 {
     'takings: for taking in takings {
@@ -100,9 +92,7 @@ pub(crate) fn put_each<'a>(
     key: &mut Vec<Option<ValueRef<'a>>>,
     partial: &mut Partial,
 ) -> Result<(), NoMemory>
-    ensures puts { OnOk result ((p : Planned) → IsPartialOf p partial.old → partial_view partial.new
-        ≡ put_all (planned_query p) (all_read keys.now (takings_view takings.now) (slot_value slots.now))
-        (partial_view partial.old)) }
+    ensures puts { OnOk result (TakesPuts (puts_with keys.now takings.now slots.now) partial.old partial.new) }
     ensures of_plan { (p : Planned) → IsPartialOf p partial.old → IsPartialOf p partial.new }
 {
     if takings.is_empty() {
@@ -125,8 +115,8 @@ pub(crate) fn keep_each(
     slots: &[Option<ValueRef<'_>>],
     late: &mut LateRows,
 ) -> Result<(), NoMemory>
-    ensures rows { OnOk result (IsWhole late.old → (late.old).width ≡ length keys.now → rows_of late.new
-        ≡ rows_of late.old ++ all_read keys.now (takings_view takings.now) (slot_value slots.now)) }
+    ensures rows { OnOk result (IsWhole late.old → (late.old).width ≡ length keys.now
+        → rows_of late.new ≡ rows_of late.old ++ puts_with keys.now takings.now slots.now) }
     ensures whole { OnOk result (IsWhole late.old → (late.old).width ≡ length keys.now → IsWhole late.new) }
     ensures width { (late.new).width ≡ (late.old).width }
 {

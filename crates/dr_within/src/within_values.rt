@@ -1,15 +1,14 @@
 //! What is gathered for the items with WITHIN.
 
-ghost use Rattle.std.specs.Prelude.{◌≡◌, ◌++◌, ◌∷◌, [], ℕ, List, Some, option_map, IfOk, IfSome, OnOk};
-ghost use Rattle.std.specs.List.{slice_get, list_any};
+ghost use Rattle.std.specs.Prelude.{◌≡◌, [], List, Some, option_map, IfOk, IfSome, OnOk};
+ghost use Rattle.std.specs.List.{slice_get};
 ghost use Rattle.dr_levels.specs.Views.{lent_value};
 ghost use Rattle.dr_meaning.specs.Query.{RecordItem as MeantItem};
-ghost use Rattle.dr_made_laws.specs.ObjectFlow.{Made};
 ghost use Rattle.dr_partials.specs.Accumulators.{aggregate_of, accumulator_of_one};
 ghost use Rattle.dr_plan.specs.Views.{fold_view};
 ghost use Rattle.dr_group.specs.Views.{accumulator_view};
-ghost use Rattle.dr_within.specs.ObjectFraming.{aggregate_at, gathered_for, AreOfItems, HoldsValues};
-ghost use Rattle.dr_within.specs.WithinValues.{is_among as among, JoinsAt, JoinsOthers, SameValues};
+ghost use Rattle.dr_within.specs.ObjectFraming.{gathered_for, HoldsValues};
+ghost use Rattle.dr_within.specs.WithinValues.{is_among as among, JoinsAt, SameValues, OverItems, JoinsOtherValues};
 
 use crate::joining::{fold_of, join_into};
 use dr_group::{Accumulator, Gathering};
@@ -74,9 +73,8 @@ impl WithinValues {
     #[inline]
     fn place_of(&mut self, item: u32, fold: Fold) -> Result<usize, NoMemory>
         ensures there { IfOk result (λ k. option_map (λ e. e.item) (slice_get (self.new).entries.items k) ≡ Some item) }
-        ensures same { OnOk result ((items : List MeantItem) → aggregate_at items item ≡ Some (fold_view fold)
-            → AreOfItems items (self.old).entries.items
-            → SameValues items (self.old).entries.items (self.new).entries.items) }
+        ensures same { OnOk result (OverItems item (fold_view fold) self.old (λ items.
+            SameValues items (self.old).entries.items (self.new).entries.items)) }
     {
         match find(&self.entries, item) {
             Some(place) => Ok(place),
@@ -100,9 +98,9 @@ impl WithinValues {
         fold: Fold,
         value: ValueRef<'_>,
     ) -> Result<(), NoMemory>
-        ensures { OnOk result ((items : List MeantItem) → aggregate_at items item ≡ Some (fold_view fold)
-            → AreOfItems items (self.old).entries.items → JoinsAt items item (accumulator_of_one (fold_view fold)
-            (lent_value value.entry)) (self.old).entries.items (self.new).entries.items) }
+        ensures { OnOk result (OverItems item (fold_view fold) self.old (λ items.
+            JoinsAt items item (accumulator_of_one (fold_view fold) (lent_value value.entry))
+            (self.old).entries.items (self.new).entries.items)) }
     {
         let place = self.place_of(item, fold)?;
         let entry = &mut self.entries[place];
@@ -112,9 +110,8 @@ impl WithinValues {
 
     /// Joins what was gathered for an item in another branch.
     fn join(&mut self, alloc: Global, item: u32, more: &Accumulator) -> Result<(), NoMemory>
-        ensures { OnOk result ((items : List MeantItem) → aggregate_at items item ≡ Some (aggregate_of
-            (accumulator_view more.now)) → AreOfItems items (self.old).entries.items → JoinsAt items item
-            (accumulator_view more.now) (self.old).entries.items (self.new).entries.items) }
+        ensures { OnOk result (OverItems item (aggregate_of (accumulator_view more.now)) self.old (λ items.
+            JoinsAt items item (accumulator_view more.now) (self.old).entries.items (self.new).entries.items)) }
     {
         let place = self.place_of(item, fold_of(more))?;
         let entry = &mut self.entries[place];
@@ -130,9 +127,7 @@ impl WithinValues {
         more: &WithinValues,
         own: &[u32],
     ) -> Result<(), NoMemory>
-        ensures { OnOk result ((items : List MeantItem) → AreOfItems items (self.old).entries.items
-            → AreOfItems items (more.now).entries.items → JoinsOthers items own.now (more.now).entries.items
-            (self.old).entries.items (self.new).entries.items) }
+        ensures { OnOk result (JoinsOtherValues own.now more.now self.old self.new) }
     {
         'entries: for entry in &more.entries {
             if !is_among(own, entry.item) {
@@ -151,9 +146,8 @@ impl WithinValues {
         item: u32,
         fold: Fold,
     ) -> Result<Accumulator, NoMemory>
-        ensures { IfOk result (λ x. (items : List MeantItem) → aggregate_at items item ≡ Some (fold_view fold)
-            → AreOfItems items (self.now).entries.items
-            → accumulator_view x ≡ gathered_for (fold_view fold) item (self.now).entries.items) }
+        ensures { IfOk result (λ x. OverItems item (fold_view fold) self.now (λ items.
+            accumulator_view x ≡ gathered_for (fold_view fold) item (self.now).entries.items)) }
     {
         let mut total = Accumulator::new(Gathering::Values(fold));
         'entries: for entry in &self.entries {

@@ -5,11 +5,12 @@ use Rattle.dr_meaning.specs.Schema.{Kind}
 use Rattle.dr_meaning.specs.Path.{Leaf, max_repetition, max_definition}
 use Rattle.dr_meaning.specs.Column.{Triplet}
 use Rattle.dr_formats.specs.Compact.{struct_bytes}
-use Rattle.dr_formats.specs.Metadata.{ColumnChunk, RowGroup, page_tree}
+use Rattle.dr_formats.specs.Metadata.{ColumnChunk, RowGroup, page_tree, PageHeader}
 use Rattle.dr_formats.specs.Page.{PageForm, is_triplet, body_bytes}
 use Rattle.dr_formats.specs.Writing.{cut_pages, header_of_page, type_from, WrittenChunks, put_chunk, written_groups}
 use Rattle.dr_levels.specs.declared.column.Column.{Column}
-use Rattle.dr_levels.specs.Views.{column_view, column_form, form}
+use Rattle.dr_levels.specs.declared.triplets.Triplets.{Triplets}
+use Rattle.dr_levels.specs.Views.{column_view, column_form, form, triplets_view, triplets_form}
 use Rattle.dr_write.specs.Cutting.{records_of}
 
 -- what is needed of a leaf: its names, its kind, its greatest levels
@@ -87,3 +88,16 @@ AreFor [] [] = Unit {0}
 AreFor [] (c ∷ cs) = ⊥
 AreFor (l ∷ ls) [] = ⊥
 AreFor (l ∷ ls) (c ∷ cs) = IsFor l c × AreFor ls cs
+
+-- ---- of a stretch of a column
+
+-- the header of a page of this form with these triplets, whose body has so many bytes, and the page
+abbrev pub header_for : PageForm → ℕ → Triplets → ℕ → PageHeader
+header_for form max_repetition ts size = header_of_page form max_repetition (triplets_form ts).greatest (triplets_view ts) size
+
+abbrev pub page_for : PageForm → ℕ → Triplets → List ℕ
+page_for form max_repetition ts = page_of form (triplets_form ts).kind max_repetition (triplets_form ts).greatest (triplets_view ts)
+
+-- the pages into which some of its triplets are cut
+abbrev pub pages_for : Triplets → List Triplet → List (List Triplet)
+pages_for ts some = cut_pages (triplets_form ts).kind [] (records_of some)

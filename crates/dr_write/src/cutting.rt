@@ -4,9 +4,9 @@ ghost use Rattle.std.specs.Prelude.{◌≡◌, ◌<◌, ◌≤◌, ◌^◌, ◌+
 ghost use Rattle.dr_meaning.specs.Schema as tree;
 ghost use Rattle.dr_formats.specs.Plain.{plain_bytes};
 ghost use Rattle.dr_formats.specs.Page.{with_value};
-ghost use Rattle.dr_formats.specs.Writing.{cut_pages};
 ghost use Rattle.dr_levels.specs.Views.{lent_value, triplets_view, triplets_form};
-ghost use Rattle.dr_write.specs.Cutting.{records_of, record_end, IsEnough};
+ghost use Rattle.dr_write.specs.Cutting.{record_end, IsEnough};
+ghost use Rattle.dr_write.specs.Chunks.{pages_for};
 
 use dr_levels::{Levels, Triplets, ValueRef};
 use dr_nested::Kind;
@@ -24,9 +24,9 @@ const LENGTH_BYTES: u64 = 4;
 /// record's end at which it is full, and at the last.
 pub(crate) fn page_length(triplets: Triplets<'_>) -> usize
     requires { 0 < length (triplets_view triplets) }
-    ensures page { cut_pages (triplets_form triplets.entry).kind [] (records_of (triplets_view triplets.entry))
+    ensures page { pages_for triplets.entry (triplets_view triplets.entry)
         ≡ take result (triplets_view triplets.entry)
-        ∷ cut_pages (triplets_form triplets.entry).kind [] (records_of (drop result (triplets_view triplets.entry))) }
+        ∷ pages_for triplets.entry (drop result (triplets_view triplets.entry)) }
     ensures some { 0 < result }
     ensures within { result ≤ length (triplets_view triplets.entry) }
 {

@@ -6,10 +6,11 @@ ghost use Rattle.dr_meaning.specs.OneColumn.{starts};
 ghost use Rattle.dr_formats.specs.Page.{data_page_v1, data_page_v2};
 ghost use Rattle.dr_formats.specs.Writing.{header_of_page, null_count};
 ghost use Rattle.dr_levels.specs.Lent.{lent_values};
-ghost use Rattle.dr_levels.specs.Views.{triplets_view, triplets_form, levels_pair, triplet_levels};
+ghost use Rattle.dr_levels.specs.Views.{triplets_view, levels_pair, triplet_levels};
 ghost use Rattle.dr_meta.specs.Views.{page_view};
 ghost use Rattle.dr_page.specs.Views.{page_form_view};
 ghost use Rattle.dr_page.specs.Writes.{AreLengthsOf};
+ghost use Rattle.dr_write.specs.Chunks.{header_for};
 
 use crate::counting::{count_of, signed_of};
 use dr_levels::{Levels, Triplets, ValuesRef};
@@ -38,9 +39,8 @@ pub(crate) fn page_head(
     lengths: LevelLengths,
     size: usize,
 ) -> Result<PageHead, NoMemory>
-    ensures { (max_repetition : ℕ) → AreLengthsOf max_repetition triplets.entry lengths → IfOk result (λ h. page_view h
-        ≡ header_of_page (page_form_view form) max_repetition (triplets_form triplets.entry).greatest
-        (triplets_view triplets.entry) size) }
+    ensures { (max_repetition : ℕ) → AreLengthsOf max_repetition triplets.entry lengths
+        → IfOk result (λ h. page_view h ≡ header_for (page_form_view form) max_repetition triplets.entry size) }
 {
     match form {
         PageForm::V1 => head_v1(triplets, size),
@@ -71,9 +71,8 @@ fn head_v1(triplets: Triplets<'_>, size: usize) -> Result<PageHead, NoMemory>
 
 /// That of a V2 page.
 fn head_v2(triplets: Triplets<'_>, lengths: LevelLengths, size: usize) -> Result<PageHead, NoMemory>
-    ensures { (max_repetition : ℕ) → AreLengthsOf max_repetition triplets.entry lengths → IfOk result (λ h. page_view h
-        ≡ header_of_page data_page_v2 max_repetition (triplets_form triplets.entry).greatest
-        (triplets_view triplets.entry) size) }
+    ensures { (max_repetition : ℕ) → AreLengthsOf max_repetition triplets.entry lengths
+        → IfOk result (λ h. page_view h ≡ header_for data_page_v2 max_repetition triplets.entry size) }
 {
     let size = count_of(size as u64)?;
     let values = count_of(triplets.len() as u64)?;

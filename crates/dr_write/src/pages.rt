@@ -1,10 +1,10 @@
 //! Pages.
 
 ghost use Rattle.std.specs.Prelude.{◌≡◌, ◌≤◌, ◌++◌, OnOk};
-ghost use Rattle.dr_levels.specs.Views.{triplets_view, triplets_form};
+ghost use Rattle.dr_levels.specs.Views.{triplets_form};
 ghost use Rattle.dr_page.specs.Views.{page_form_view};
 ghost use Rattle.dr_page.specs.Writes.{AreWritable};
-ghost use Rattle.dr_write.specs.Chunks.{page_of};
+ghost use Rattle.dr_write.specs.Chunks.{page_for};
 
 use crate::heads::page_head;
 use dr_compact::write_struct;
@@ -45,9 +45,8 @@ impl PageWriter {
         requires repetition { max_repetition ≤ 32 }
         requires definition { (triplets_form triplets).greatest ≤ 32 }
         requires writable { AreWritable max_repetition triplets }
-        ensures { OnOk result ((out.new).items ≡ (out.old).items
-            ++ page_of (page_form_view form) (triplets_form triplets.entry).kind max_repetition
-            (triplets_form triplets.entry).greatest (triplets_view triplets.entry)) }
+        ensures { OnOk result ((out.new).items
+            ≡ (out.old).items ++ page_for (page_form_view form) max_repetition triplets.entry) }
     {
         self.body.clear();
         let lengths = self
