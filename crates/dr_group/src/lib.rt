@@ -9,6 +9,7 @@ mod gathering;
 mod group;
 mod group_map;
 mod hashes;
+mod hints;
 mod index;
 mod joining;
 mod key;
