@@ -14,7 +14,7 @@ use Rattle.dr_beside.specs.Neighbours.{column_at}
 use Rattle.dr_columns.specs.declared.source.Beside.{Beside}
 use Rattle.dr_columns.specs.declared.taking.Taking.{Taking}
 use Rattle.dr_columns.specs.declared.firing.Fired.{Fired}
-use Rattle.dr_columns.specs.Rows.{Row, source_view, is_fed}
+use Rattle.dr_columns.specs.Rows.{Row, source_view, is_fed, is_apart}
 use Rattle.dr_columns.specs.RecordRows.{rows_of}
 use Rattle.dr_columns.specs.ExprRows.{value_in}
 use Rattle.dr_columns.specs.RowPuts.{groups_in, puts_in}
@@ -102,9 +102,14 @@ first_numbers (suc n) = first_numbers n ++ n ∷ []
 abbrev pub fires_of : List (List Step) → List ℕ → List Aggregate → ℕ → List Fires
 fires_of F ks A n = map (fires_at F ks A) (first_numbers n)
 
--- a leaf whose rows can be read of these columns
+-- its rows in some columns
+abbrev pub fired_rows : List (List Triplet) → Fires → List Row
+fired_rows C f = rows_of f.leaf f.beside C
+
+-- a leaf whose rows can be read of these columns; it isn't among those beside it
 pub record CanFire (C : List (List Triplet)) (f : Fires) : Type 0 where
   pub leaf : f.leaf < length C
+  pub apart : is_apart f.leaf (map (source_view C) f.beside) ≡ true
   pub fed : list_all (is_fed (column_at C f.leaf) (length C)) (map (source_view C) f.beside) ≡ true
 
 -- those whose rows are of use can be read
@@ -124,7 +129,7 @@ taking_puts ks rs t = puts_by ks rs t.number t.aggregate
 
 -- of the rows of a leaf in some columns: their groups, then what is taken
 abbrev pub source_puts : List ℕ → List (List Triplet) → Fires → List Put
-source_puts ks C f = groups_in ks (rows_of f.leaf f.beside C) ++ flat_map (taking_puts ks (rows_of f.leaf f.beside C)) f.takings
+source_puts ks C f = groups_in ks (fired_rows C f) ++ flat_map (taking_puts ks (fired_rows C f)) f.takings
 
 abbrev pub fired_puts : List ℕ → List (List Triplet) → Fires → List Put
 fired_puts ks C f = if f.needed then source_puts ks C f else []

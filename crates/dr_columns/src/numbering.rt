@@ -2,17 +2,22 @@
 
 ghost use Rattle.std.specs.Prelude.{◌≡◌, [], ◌∷◌, length, map, true, None, Some, IfOk};
 ghost use Rattle.std.specs.List.{slice_get};
+ghost use Rattle.dr_levels.specs.Views.{triplets_view};
 ghost use Rattle.dr_group.specs.Groups.{put_of};
 ghost use Rattle.dr_group.specs.Maps.{gatherings_view, tuples_view};
 ghost use Rattle.dr_scalar.specs.Slots.{slot_value};
 ghost use Rattle.dr_columns.specs.RowsView.{rows_view};
 ghost use Rattle.dr_columns.specs.RowPuts.{keys_in, groups_in};
 ghost use Rattle.dr_columns.specs.Numbers.{tuples_at, are_among, Stay, HasPut};
+ghost use Rattle.dr_columns.specs.Takings.{fired_view, fired_rows, CanFire};
 
+use crate::firing::Fired;
 use crate::keys::{push_key, slot};
+use crate::own_rows::put_own_numbers;
+use crate::place::Place;
 use crate::rows::Rows;
 use dr_group::GroupMap;
-use dr_levels::ValueRef;
+use dr_levels::{Triplets, ValueRef};
 use dr_memory::NoMemory;
 use std::alloc::Global;
 
@@ -58,7 +63,7 @@ fn number_of<'a>(
 /// Puts the number of the group of each row. The groups that aren't there are made.
 ///
 /// Errors: want of memory, or of room for a number.
-pub(crate) fn put_numbers<'r>(
+fn put_numbers<'r>(
     alloc: Global,
     keys: &[u32],
     rows: &mut Rows<'r>,
@@ -77,4 +82,42 @@ pub(crate) fn put_numbers<'r>(
         out.push(number_of(alloc, keys, &rows.slots, &mut key, groups)?)?;
     }
     Ok(())
+}
+
+/// Whether a leaf is the only key.
+fn is_only(keys: &[u32], leaf: u32) -> bool
+    ensures { result ≡ true → keys.now ≡ leaf ∷ [] }
+{
+    match keys {
+        [only] => *only == leaf,
+        _ => false,
+    }
+}
+
+/// Puts the number of the group of each of a leaf's rows. Where the leaf is the only key, its own values alone are read.
+///
+/// Errors: want of memory, or of room for a number.
+pub(crate) fn number_rows<'r>(
+    alloc: Global,
+    keys: &[u32],
+    fired: &Fired<'r>,
+    columns: &[Triplets<'r>],
+    groups: &mut GroupMap,
+    out: &mut Vec<u32>,
+) -> Result<(), NoMemory>
+    requires { CanFire (map triplets_view columns.now) (fired_view fired.now) }
+    ensures put { IfOk result (λ done. HasPut groups.old
+        (groups_in keys.now (fired_rows (map triplets_view columns.now) (fired_view fired.now))) groups.new) }
+    ensures gatherings { gatherings_view groups.new ≡ gatherings_view groups.old }
+    ensures numbers { IfOk result (λ done. tuples_at (tuples_view groups.new) (out.new).items
+        ≡ map (keys_in keys.now) (fired_rows (map triplets_view columns.now) (fired_view fired.now))) }
+    ensures among { IfOk result (λ done. are_among (length (tuples_view groups.new)) (out.new).items ≡ true) }
+{
+    let leaf = fired.source.leaf;
+    if is_only(keys, leaf) {
+        let mut own = Place::new(leaf, 0, columns);
+        return put_own_numbers(alloc, &mut own, groups, out);
+    }
+    let mut rows = Rows::new(alloc, &fired.source, columns)?;
+    put_numbers(alloc, keys, &mut rows, groups, out)
 }

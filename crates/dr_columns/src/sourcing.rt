@@ -5,7 +5,7 @@ ghost use Rattle.std.specs.List.{list_all, flat_map};
 ghost use Rattle.dr_levels.specs.Views.{triplets_view};
 ghost use Rattle.dr_beside.specs.Neighbours.{column_at};
 ghost use Rattle.dr_group.specs.Maps.{gatherings_view, tuples_view};
-ghost use Rattle.dr_columns.specs.Rows.{source_view, is_fed};
+ghost use Rattle.dr_columns.specs.Rows.{source_view, is_fed, is_apart};
 ghost use Rattle.dr_columns.specs.RecordRows.{rows_of};
 ghost use Rattle.dr_columns.specs.RowPuts.{keys_in};
 ghost use Rattle.dr_columns.specs.Numbers.{tuples_at, are_among, HasPut};
@@ -21,7 +21,11 @@ ghost use Rattle.dr_columns.specs.Takings.{
 };
 
 use crate::firing::Fired;
-use crate::numbering::put_numbers;
+use crate::keyless::take_keyless;
+use crate::numbering::number_rows;
+use crate::own::is_own;
+use crate::own_rows::take_own;
+use crate::place::Place;
 use crate::rows::Rows;
 use crate::source::Source;
 use crate::taking::{Taking, take_rows, take_values};
@@ -43,6 +47,8 @@ fn take_one<'r>(
     groups: &mut GroupMap,
 ) -> Result<(), NoMemory>
     requires leaf { (source.now).leaf < length columns.now }
+    requires apart { is_apart (source.now).leaf
+        (map (source_view (map triplets_view columns.now)) ((source.now).beside).items) ≡ true }
     requires fed { list_all (is_fed (column_at (map triplets_view columns.now) (source.now).leaf) (length columns.now))
         (map (source_view (map triplets_view columns.now)) ((source.now).beside).items) ≡ true }
     requires among { are_among (length (tuples_view groups.old)) numbers.now ≡ true }
@@ -57,6 +63,10 @@ fn take_one<'r>(
     match taking.aggregate {
         Aggregate::Rows => take_rows(alloc, taking.number, numbers, groups),
         Aggregate::Of(_, expression) => {
+            if is_own(expression, source.leaf, columns[source.leaf as usize]) {
+                let mut own = Place::new(source.leaf, 0, columns);
+                return take_own(alloc, taking.number, &mut own, numbers, groups);
+            }
             let mut rows = Rows::new(alloc, source, columns)?;
             take_values(alloc, taking.number, expression, &mut rows, numbers, groups)
         }
@@ -75,6 +85,8 @@ fn take_each<'r>(
     groups: &mut GroupMap,
 ) -> Result<(), NoMemory>
     requires leaf { (source.now).leaf < length columns.now }
+    requires apart { is_apart (source.now).leaf
+        (map (source_view (map triplets_view columns.now)) ((source.now).beside).items) ≡ true }
     requires fed { list_all (is_fed (column_at (map triplets_view columns.now) (source.now).leaf) (length columns.now))
         (map (source_view (map triplets_view columns.now)) ((source.now).beside).items) ≡ true }
     requires among { are_among (length (tuples_view groups.old)) numbers.now ≡ true }
@@ -108,8 +120,7 @@ fn take_source<'r>(
         (source_puts keys.now (map triplets_view columns.now) (fired_view fired.now)) groups.new) }
     ensures gatherings { gatherings_view groups.new ≡ gatherings_view groups.old }
 {
-    let mut rows = Rows::new(alloc, &fired.source, columns)?;
-    put_numbers(alloc, keys, &mut rows, groups, numbers)?;
+    number_rows(alloc, keys, fired, columns, groups, numbers)?;
     take_each(
         alloc,
         &fired.source,
@@ -134,10 +145,13 @@ fn take_fired<'r>(
         (fired_puts keys.now (map triplets_view columns.now) (fired_view fired.now)) groups.new) }
     ensures gatherings { gatherings_view groups.new ≡ gatherings_view groups.old }
 {
-    if fired.is_needed {
-        return take_source(alloc, keys, fired, columns, groups, numbers);
+    if !fired.is_needed {
+        return Ok(());
     }
-    Ok(())
+    if keys.is_empty() {
+        return take_keyless(alloc, fired, columns, groups);
+    }
+    take_source(alloc, keys, fired, columns, groups, numbers)
 }
 
 /// Takes the rows of each leaf at which something is taken, or whose rows are those of the groups.

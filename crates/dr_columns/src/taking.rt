@@ -5,6 +5,7 @@ ghost use Rattle.std.specs.List.{slice_get};
 ghost use Rattle.dr_meaning.specs.BoundExpression.{number_type, text_type};
 ghost use Rattle.dr_levels.specs.Views.{lent_value};
 ghost use Rattle.dr_group.specs.Groups.{put_of};
+ghost use Rattle.dr_group.specs.ManyTaken.{many_view, many_puts};
 ghost use Rattle.dr_group.specs.Maps.{gatherings_view, tuples_view};
 ghost use Rattle.dr_scalar.specs.OverSlots.{expr_over};
 ghost use Rattle.dr_scalar.specs.Slots.{of_type, slot_value};
@@ -16,7 +17,7 @@ ghost use Rattle.dr_columns.specs.RowsView.{rows_view};
 use crate::keys::slot;
 use crate::numbering::short_number;
 use crate::rows::Rows;
-use dr_group::{GroupMap, Taken};
+use dr_group::{GroupMap, Many, Taken};
 use dr_levels::ValueRef;
 use dr_memory::NoMemory;
 use dr_plan::{Aggregate, Expr, Number, TextOf};
@@ -81,7 +82,7 @@ fn lent<'a>(value: &'a Option<Evaluated<'_>>) -> Option<ValueRef<'a>>
 ///
 /// Errors: want of memory, or of room for a count or a sum.
 #[inline(always)]
-fn put_value(
+pub(crate) fn put_value(
     alloc: Global,
     aggregate: u32,
     value: Option<ValueRef<'_>>,
@@ -95,6 +96,24 @@ fn put_value(
     ensures tuples { tuples_view groups.new ≡ tuples_view groups.old }
 {
     groups.take_in(alloc, group as usize, Some(Taken { aggregate, value }))
+}
+
+/// Puts values for an aggregate, one after another, into the group without keys.
+///
+/// Errors: want of memory, or of room for a count or a sum.
+pub(crate) fn put_many(
+    alloc: Global,
+    aggregate: u32,
+    many: Many<'_>,
+    group: u32,
+    groups: &mut GroupMap,
+) -> Result<(), NoMemory>
+    requires { slice_get (tuples_view groups.old) group ≡ Some [] }
+    ensures put { IfOk result (λ done. HasPut groups.old (many_puts [] aggregate (many_view many.entry)) groups.new) }
+    ensures gatherings { gatherings_view groups.new ≡ gatherings_view groups.old }
+    ensures tuples { tuples_view groups.new ≡ tuples_view groups.old }
+{
+    groups.take_many(alloc, group as usize, aggregate, many)
 }
 
 /// Puts the value that is computed for a row.
@@ -118,7 +137,7 @@ fn put_computed<'a>(
 
 /// Puts the value of an expression in a row.
 #[inline(always)]
-fn put_taken<'a>(
+pub(crate) fn put_taken<'a>(
     alloc: Global,
     aggregate: u32,
     expression: &'a Expr,
@@ -202,7 +221,7 @@ fn take_record_values(
     ensures tuples { tuples_view groups.new ≡ tuples_view groups.old }
 {
     match taking.aggregate {
-        Aggregate::Rows => put_times(alloc, taking.number, None, records, group, groups),
+        Aggregate::Rows => { put_many(alloc, taking.number, Many::Nulls(records), group, groups) }
         Aggregate::Of(_, expression) => {
             let value = eval(alloc, expression, &[])?;
             put_times(alloc, taking.number, lent(&value), records, group, groups)

@@ -40,3 +40,5 @@ pub mod TurnLemmas
 pub mod NumberedLemmas
 -- values that are taken one after another
 pub mod TakenLemmas
+-- values that are taken at once
+pub mod ManyLemmas

@@ -29,5 +29,6 @@ pub mod Turns
 pub mod Merging
 -- values that are taken one after another
 pub mod TakenValues
+pub mod ManyTaken
 -- how long it takes to look for a group by its hash
 pub mod ChainLaws

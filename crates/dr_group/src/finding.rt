@@ -50,16 +50,25 @@ fn index_of(alloc: Global, groups: &[Group]) -> Result<Option<Index>, NoMemory>
 }
 
 impl GroupMap {
+    /// Whether the group of a number has a key tuple.
+    #[inline(always)]
+    pub(crate) fn is_at(&self, number: usize, key: &[Option<ValueRef<'_>>]) -> bool
+        ensures { result ≡ true → IsFound (map lent_cell key.now) (map group_view (self.now).groups.items)
+            (Some number) }
+    {
+        if number >= self.groups.len() {
+            return false;
+        }
+        has_key(&self.groups[number], key)
+    }
+
     /// Whether the group at the hint has a key tuple.
     #[inline(always)]
     pub(crate) fn is_hinted(&self, key: &[Option<ValueRef<'_>>]) -> bool
         ensures { result ≡ true → IsFound (map lent_cell key.now) (map group_view (self.now).groups.items)
             (Some (self.now).hint) }
     {
-        if self.hint >= self.groups.len() {
-            return false;
-        }
-        has_key(&self.groups[self.hint], key)
+        self.is_at(self.hint, key)
     }
 
     /// The number of the group of a key tuple, if there is one. All groups are indexed then.

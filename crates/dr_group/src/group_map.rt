@@ -9,6 +9,7 @@ ghost use Rattle.std.proofs.Props.{props};
 
 use crate::gathering::Gathering;
 use crate::group::Group;
+use crate::hints::Hints;
 use crate::index::Index;
 use crate::ordered_index::OrderedIndex;
 
@@ -24,6 +25,8 @@ pub struct GroupMap {
     pub(crate) ordered: Option<OrderedIndex>,
     /// The number of the group that is looked at first: the last one that was found.
     pub(crate) hint: usize,
+    /// Those that are looked at first where numbers are asked for.
+    pub(crate) hints: Hints,
     pub ghost distinct: { AreDistinct (map group_view groups.items) },
     pub ghost indexed: { hashes_of index.links.items ≡ take (length index.links.items) (group_hashes groups.items) },
     pub ghost numbered: { IfSome ordered (λ o. AreNumbered o.numbers (tuples_of (map group_view groups.items))) } by { Prim.hlevel props },

@@ -11,6 +11,7 @@ ghost use Rattle.dr_group.specs.RowPartials.{gathered_of_rows};
 use crate::gathering::Gathering;
 use crate::group::{Group, accumulators_of_rows, empty_accumulators};
 use crate::group_map::GroupMap;
+use crate::hints::Hints;
 use crate::index::Index;
 use dr_memory::NoMemory;
 use dr_plan::{Aggregate, GroupItem, GroupTerm};
@@ -41,6 +42,7 @@ impl GroupMap {
             index: Index::new(alloc),
             ordered: None,
             hint: 0,
+            hints: Hints::new(alloc),
         })
     }
 
@@ -66,6 +68,7 @@ impl GroupMap {
             index: Index::new(alloc),
             ordered: None,
             hint: 0,
+            hints: Hints::new(alloc),
         })
     }
 }

@@ -73,15 +73,17 @@ impl GroupMap {
         ensures stay { IfOk result (λ n. (k : ℕ) (tuple : List (Option Value))
             → slice_get (tuples_view self.old) k ≡ Some tuple → slice_get (tuples_view self.new) k ≡ Some tuple) }
     {
-        if self.is_hinted(key) {
-            let number = self.hint;
-            self.put_at(alloc, number, key, None)?;
-            return Ok(number);
+        let hinted = self.hints.find(key);
+        if self.is_at(hinted, key) {
+            self.put_at(alloc, hinted, key, None)?;
+            return Ok(hinted);
         }
-        self.find_or_make(alloc, key)
+        let number = self.find_or_make(alloc, key)?;
+        self.hints.put(key, number)?;
+        Ok(number)
     }
 
-    /// The same, where it isn't the group at the hint.
+    /// The same, where no hint tells it.
     #[inline]
     fn find_or_make(
         &mut self,
