@@ -10,8 +10,6 @@ use Rattle.dr_meaning.specs.Column.{Triplet, column}
 use Rattle.dr_meaning.specs.OneColumn.{starts, is_column}
 use Rattle.dr_meaning.proofs.ColumnStarts.{starts_append}
 use Rattle.dr_meaning.proofs.OneColumnLemmas.{columns_recognized}
-use Rattle.dr_levels.specs.Views.{triplets_view}
-use Rattle.dr_levels.specs.declared.triplets.Triplets.{Triplets}
 use Rattle.dr_moves.specs.Leading.{Left, columns_of}
 use Rattle.dr_beside.specs.Chunks.{HasColumns, NoneHas}
 use Rattle.dr_beside.specs.Neighbours.{column_at}
@@ -48,11 +46,11 @@ fronts_in_front xs C n records e some few f = record {
 
 -- ---- they are passed
 
-pub count_of : (cs : List Triplets) (i : ℕ) → get_or (map (λ (c : Triplets). length (triplets_view c)) cs) i 0 ≡ length (columns_of (map triplets_view cs) i)
-count_of [] zero = refl
-count_of [] (suc i) = refl
-count_of (c ∷ cs) zero = refl
-count_of (c ∷ cs) (suc i) = count_of cs i
+pub count_at : (C : List (List Triplet)) (i : ℕ) → get_or (map (λ (ts : List Triplet). length ts) C) i 0 ≡ length (columns_of C i)
+count_at [] zero = refl
+count_at [] (suc i) = refl
+count_at (c ∷ C) zero = refl
+count_at (c ∷ C) (suc i) = count_at C i
 
 front_passes : (records count : ℕ) (all front : List Triplet) → count ≡ length front → IsFrontOf records all front → CanPass all count records
 front_passes records count all front e f = (
@@ -60,9 +58,8 @@ front_passes records count all front e f = (
   ap starts (ap (λ (k : ℕ). take k all) e ∙ (ap (take (length front)) f.lies ∙ take-append_seam front (drop (length front) all))) ∙ f.so_many,
 )
 
-pub fronts_pass : (xs : List AtHand) (cs : List Triplets) (ns : List ℕ) (records : ℕ) → ns ≡ map (λ (c : Triplets). length (triplets_view c)) cs → AreFronts records xs (map triplets_view cs)
-    → (i : ℕ) → i < length xs → CanPass (here_of xs i) (get_or ns i 0) records
-fronts_pass xs cs ns records e f i l = front_passes records (get_or ns i 0) (here_of xs i) (columns_of (map triplets_view cs) i) (ap (λ (ms : List ℕ). get_or ms i 0) e ∙ count_of cs i) (f.1 i l)
+pub fronts_pass : (xs : List AtHand) (C : List (List Triplet)) (ns : List ℕ) (records : ℕ) → ns ≡ map (λ (ts : List Triplet). length ts) C → AreFronts records xs C → (i : ℕ) → i < length xs → CanPass (here_of xs i) (get_or ns i 0) records
+fronts_pass xs C ns records e f i l = front_passes records (get_or ns i 0) (here_of xs i) (columns_of C i) (ap (λ (ms : List ℕ). get_or ms i 0) e ∙ count_at C i) (f.1 i l)
 
 -- ---- one that is no column
 
