@@ -30,7 +30,7 @@ pub struct AtHand {
 }
 
 impl AtHand {
-    ghost use Rattle.std.specs.Prelude.{◌++◌, ◌==◌, [], take, false, true, IfOk, OnOk, OnErr};
+    ghost use Rattle.std.specs.Prelude.{◌++◌, ◌-◌, ◌==◌, [], take, false, true, IfOk, OnOk, OnErr};
     ghost use Rattle.dr_meaning.specs.OneColumn.{begins_record};
     ghost use Rattle.dr_nested.specs.Views.{kind_view};
     ghost use Rattle.dr_levels.specs.Columns.{Adds};
@@ -148,5 +148,20 @@ impl AtHand {
         self.begun = count_records(self.batch.triplets());
         self.ended = ended;
         Ok(())
+    }
+
+    /// Puts what is left at the end of a column of the leaf, in the place of what that has, and answers how many
+    /// triplets they are. None is left then.
+    pub fn give(&mut self, out: &mut Column) -> usize
+        requires { column_form out.old ≡ form_of self.old }
+        ensures rest { drop (length (column_view out.new) - result) (column_view out.new) ≡ rest_of self.old }
+        ensures form { column_form out.new ≡ column_form out.old }
+        ensures same_form { form_of self.new ≡ form_of self.old }
+    {
+        let left = self.len();
+        mem::swap(&mut self.batch, out);
+        self.passed = self.batch.len();
+        self.begun = 0;
+        left
     }
 }

@@ -36,13 +36,13 @@ use Rattle.dr_columns.proofs.TakenLemmas.{scan_in_order}
 
 -- ---- the same at hand
 
-pub behind_same : (fs : Fields) (F : List (List PathStep)) (rows : ℕ) (given here there : Left) (ends others : ℕ → Bool) (R : List Node) (left now : ℕ) → ((i : ℕ) → there i ≡ here i) → ((i : ℕ) → others i ≡ ends i) → now ≡ left
+pub behind_same : (fs : Fields) (F : List (List PathStep)) (rows : ℕ) (given here there : Left) (ends others : ℕ → Bool) (R : List Node) (left now : ℕ) → ((i : ℕ) → there i ≡ here i) → ((i : ℕ) → ends i ≡ true → others i ≡ true) → now ≡ left
     → IsBehind fs F rows given here ends R left → IsBehind fs F rows given there others R now
 behind_same fs F rows given here there ends others R left now e q m h = record {
   are_records = h.are_records;
   count = let c = h.count in omega (arith, c, m);
   lies = λ i. h.lies i ∙ ap (λ (ts : List Triplet). has_columns F R i ++ ts) (sym (e i));
-  begins = λ C later on Q has i l. ap (λ (ts : List Triplet). begins_record (ts ++ later i)) (e i) ∙ h.begins C later (on.0, on.1, λ j z. on.2 j (q j ∙ z)) Q has i l;
+  begins = λ C later on Q has i l. ap (λ (ts : List Triplet). begins_record (ts ++ later i)) (e i) ∙ h.begins C later (on.0, on.1, λ j z. on.2 j (q j z)) Q has i l;
   past = h.past;
 }
 
@@ -55,7 +55,7 @@ leaf_paths s p R x t = (scan_in_order s p R x t).leaves
 -- ---- the beginning
 
 pub begins_behind : (s : Schema) (p : Plan) (rows : ℕ) (xs : List AtHand) (x : ColumnScan) → HasTaken s p [] x → ((i : ℕ) → here_of xs i ≡ []) → IsBehind s.fields (plan_paths p) rows nothing (here_of xs) (ends_of xs) [] rows
-begins_behind s p rows xs x t none = behind_same s.fields (plan_paths p) rows nothing (here_of xs) (here_of xs) (ends_of xs) (ends_of xs) [] rows rows (λ i. refl) (λ i. refl) refl
+begins_behind s p rows xs x t none = behind_same s.fields (plan_paths p) rows nothing (here_of xs) (here_of xs) (ends_of xs) (ends_of xs) [] rows rows (λ i. refl) (λ i z. z) refl
     (behind_nothing s.fields (plan_paths p) rows (here_of xs) (ends_of xs) (leaf_paths s p [] x t) none)
 
 -- ---- a chunk
@@ -70,7 +70,7 @@ pub took_chunk : (s : Schema) (p : Plan) (rows : ℕ) (given : Left) (R S : List
     → ((i : ℕ) → here_of ys i ≡ behind_fronts xs C i) → ((i : ℕ) → ends_of ys i ≡ ends_of xs i) → IsBehind s.fields (plan_paths p) rows given (here_of ys) (ends_of ys) (R ++ S) now
 took_chunk s p rows given R S xs ys C left records now h n f some few whole has here ends =
     let k = paths_count p in
-    behind_same s.fields (plan_paths p) rows given (behind_fronts xs C) (here_of ys) (ends_of xs) (ends_of ys) (R ++ S) now now here ends refl
+    behind_same s.fields (plan_paths p) rows given (behind_fronts xs C) (here_of ys) (ends_of xs) (ends_of ys) (R ++ S) now now here (λ i z. ends i ∙ z) refl
     (behind_chunk s.fields (plan_paths p) rows given (here_of xs) (behind_fronts xs C) C (ends_of xs) R S left records now h (fronts_in_front xs C (length (plan_paths p)) records (k ∙ sym n) some whole f) few has
     (λ i l. drop_of_none (length (columns_of C i)) (here_of xs i) (here_past xs i (omega (arith, l, k, n)))))
 

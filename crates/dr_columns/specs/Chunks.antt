@@ -66,6 +66,6 @@ NoneGoesOn s p rows given ends = (C : List (List Triplet)) (later : Left) → Go
 abbrev pub ComesTo : Schema → Plan → ℕ → Left → Chunks → Step → Type 0
 ComesTo s p rows given x Step.Took = (R : List Node) × HasTakenChunks s p rows given R x
 ComesTo s p rows given x (Step.Wants i) = (R : List Node) × HasTakenChunks s p rows given R x × (i < length (plan_leaves p)) × (ends_of x.leaves.items i ≡ false)
-ComesTo s p rows given x Step.Long = (R : List Node) × HasTakenChunks s p rows given R x
+ComesTo s p rows given x Step.Long = (R : List Node) × HasTakenChunks s p rows given R x × (0 < length (plan_leaves p))
 ComesTo s p rows given x Step.Ended = (R : List Node) × HasTakenChunks s p rows given R x × IsAllTaken p x
 ComesTo s p rows given x Step.NoneHave = NoneGoesOn s p rows given (ends_of x.leaves.items)

@@ -199,4 +199,17 @@ impl<'p> Chunks<'p> {
     {
         self.scan.close()
     }
+
+    /// What is at hand of each leaf, how many records are left, and the partial of those that are taken.
+    pub fn into_parts(self) -> (Vec<AtHand>, u64, Partial)
+        ensures leaves { (result.0).items ≡ (self.entry).leaves.items }
+        ensures records { result.1 ≡ (self.entry).records }
+        ensures partial { (s : Schema) (p : MeantPlan) (rows : ℕ) (given : Left) (R : List Node)
+            → HasTakenChunks s p rows given R self.entry
+            → partial_view result.2 ≡ partial_of s.fields (planned_query (plan_view p)) R }
+        ensures of_plan { (s : Schema) (p : MeantPlan) (rows : ℕ) (given : Left) (R : List Node)
+            → HasTakenChunks s p rows given R self.entry → IsPartialOf (plan_view p) result.2 }
+    {
+        (self.leaves, self.records, self.scan.close())
+    }
 }

@@ -15,7 +15,7 @@ returns-in-Some-clause-step c = λ s p rows given R h.
     let l : c.in-Some.leaf < length x.leaves.items = subst (λ (xs : List AtHand). c.in-Some.leaf < length xs) c.deref.ensures.value w.0 in
     let e : ends_of x.leaves.items c.in-Some.leaf ≡ false = ap (λ (xs : List AtHand). ends_of xs c.in-Some.leaf) (sym c.deref.ensures.value) ∙ w.1 in
     elim c.wants.ensures [
-      | inl q ↦ subst (ComesTo s p rows given x) (sym q) (R, h)
+      | inl q ↦ subst (ComesTo s p rows given x) (sym q) (R, h, (let n = h.for_plan.as_many in omega (arith, l, n)))
       | inr q ↦ subst (ComesTo s p rows given x) (sym q) (R, h, (let n = h.for_plan.as_many in omega (arith, l, n)), e)
     ]
 
