@@ -29,10 +29,10 @@ use Rattle.dr_tablets.specs.FileRecords.{AreLeavesOf, AreColumnsOf, AreColumnsOf
 use Rattle.dr_tablets.proofs.ColumnsLemmas.{leaf_there}
 use Rattle.dr_tablets.proofs.RecordsLemmas.{leaf_at, read_at, data_at, same_footer, columns_of_file}
 use Rattle.dr_walk.specs.Batches.{is_last}
+use Rattle.dr_walk.specs.Walking.{HasColumns}
 use Rattle.dr_walk.specs.declared.fault.AssembleFault.{AssembleFault}
-use Rattle.dr_scan.specs.Streamed.{ends_of, IsTold, AreLeafStreams, Extends, IsWholeScan, NoneBegins, IsOfOpened}
+use Rattle.dr_scan.specs.Streamed.{ends_of, IsTold, AreLeafStreams, Extends, NoneBegins, IsOfOpened}
 use Rattle.dr_scan.specs.declared.leaf_stream.LeafStream.{LeafStream}
-use Rattle.dr_scan.specs.declared.making.Making.{Making}
 use Rattle.dr_scan.specs.declared.opened.Made.{Made}
 use Rattle.dr_scan.proofs.StreamLemmas.{stream_there, end_of_stream, end_past}
 use Rattle.dr_scan.proofs.Tabulated.{tabulated, tabulated_of, short_by}
@@ -78,11 +78,27 @@ columns_by bytes (l ∷ F) [] n h = absurd (never (omega (arith, n)))
     never z = omega (arith, z)
 columns_by bytes (l ∷ F) (c ∷ C) n h = (h 0 l refl, columns_by bytes F C (omega (arith, n)) (λ i m e. h (suc i) m e))
 
+-- all was given, of columns that are what the streams gave, each of which is at its end, and that records have
+pub record IsWholeFile (s : Schema) (p : Plan) (rows : ℕ) (given : Left) (ended : List Bool) : Type 0 where
+  pub columns : List (List Triplet)
+  pub records : List Node
+  pub have : HasColumns s.fields (paths_of_leaves (plan_leaves p)) columns rows records
+  pub given_all : (length columns ≡ length (plan_leaves p)) × ((i : ℕ) → columns_of columns i ≡ given i)
+  pub ends : (i : ℕ) → i < length (plan_leaves p) → is_last ended i ≡ true
+
+-- of no leaf too much was given
+pub few_given : (held : Option Files) (o : Opened) (F : List Leaf) (given : Left) (xs : List LeafStream) → AreLeafStreams held o F given xs → (i : ℕ) → i < length F → length (given i) ≤ most_triplets
+few_given held o F given xs are i h =
+    let l = leaf_there F i h in
+    let y = stream_there F xs i l.0 are.as_many l.1 in
+    let k = (are.each i l.0 y.0 l.1 y.1).few in
+    omega (arith, k)
+
 -- what the streams gave, where each is at its end
-pub whole_opened : (s : Schema) (p : Plan) (held : Option Files) (o : Opened) (given : Left) (xs : List LeafStream) (m : Making) (x : Made) → AreLeafStreams held o (plan_leaves p) given xs
-    → (w : IsWholeScan s p (rows_of o) given (ends_of xs) m) → x.triplets ≡ counted 0 (triplet_count (tabulated (length (plan_leaves p)) given))
+pub whole_opened : (s : Schema) (p : Plan) (held : Option Files) (o : Opened) (given : Left) (xs : List LeafStream) (x : Made) → AreLeafStreams held o (plan_leaves p) given xs
+    → (w : IsWholeFile s p (rows_of o) given (ends_of xs)) → x.triplets ≡ counted 0 (triplet_count (tabulated (length (plan_leaves p)) given))
     → partial_view x.partial ≡ partial_of s.fields (planned_query (plan_view p)) w.records → IsPartialOf (plan_view p) x.partial → IsOfOpened s p held o x
-whole_opened s p held o given xs m x are w count made of_plan = record {
+whole_opened s p held o given xs x are w count made of_plan = record {
   columns = w.columns;
   partial = (w.records, w.have, made);
   of_plan = of_plan;
@@ -92,12 +108,7 @@ whole_opened s p held o given xs m x are w count made of_plan = record {
 }
   where
     few : (i : ℕ) → i < length (plan_leaves p) → length (columns_of w.columns i) ≤ most_triplets
-    few i h =
-        let l = leaf_there (plan_leaves p) i h in
-        let y = stream_there (plan_leaves p) xs i l.0 are.as_many l.1 in
-        let k = (are.each i l.0 y.0 l.1 y.1).few in
-        let n = ap length (w.given_all.1 i) in
-        omega (arith, k, n)
+    few i h = let k = few_given held o (plan_leaves p) given xs are i h in let n = ap length (w.given_all.1 i) in omega (arith, k, n)
 
     is_column : (bytes : List ℕ) → IsTold held o (plan_leaves p) bytes → (i : ℕ) (l : Leaf) → slice_get (plan_leaves p) i ≡ Some l → IsColumnOf bytes l (columns_of w.columns i)
     is_column bytes told i l e =

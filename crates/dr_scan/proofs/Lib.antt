@@ -15,6 +15,8 @@ pub mod StreamLemmas
 pub mod FileLemmas
 -- stretch by stretch
 pub mod UnderwayLemmas
+-- chunk by chunk
+pub mod ChunkedLemmas
 -- the copies of one tablet
 pub mod TabletLemmas
 -- the truth of tablets

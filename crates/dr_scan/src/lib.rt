@@ -2,6 +2,7 @@
 //! that gives one. Of each leaf's column a batch is held at a time.
 #![tactic(auto)]
 
+mod chunks;
 pub mod laws;
 mod leaf_stream;
 mod leaf_streams;

@@ -155,7 +155,7 @@ returns-in-Ok-Ended-default-clause-partial g c =
     (c.make_at_hand.ensures.ends s p (rows_of o) at.given at.moves c.requires.planned (streamed_at s p (rows_of o) at.given at.moves c.stretches.walk xs ys left counts same so_many at.streamed) at.makes at.reads inv.as_many) in
     let whole = subst (λ (e : Stretch). EndsAtHand s p (rows_of o) at.given (ends_of xs) (left_at xs left) walk making behind (Ok (e, c.in-Ok-Ended-default.field-0-1))) c.in-Ok-Ended-default.field-0-0-is (subst (EndsAtHand s p (rows_of o) at.given (ends_of xs) (left_at xs left) walk making behind) c.in-Ok-Ended-default.is ends) in
     let partial = c.in_ok-partial-in-Ok-Ended-default in
-    whole_opened s p held o at.given xs making _ at.streams whole (c.taken.ensures ∙ at.count) (partial.ensures.partial s whole.records c.requires.planned whole.have.0 whole.makes)
+    whole_opened s p held o at.given xs _ at.streams (record { columns = whole.columns; records = whole.records; have = whole.have; given_all = whole.given_all; ends = whole.ends }) (c.taken.ensures ∙ at.count) (partial.ensures.partial s whole.records c.requires.planned whole.have.0 whole.makes)
     (partial.ensures.of_plan s (moves.walk s.fields (paths_of_leaves F) whole.records) whole.makes)
 
 pub returns-in_err-count-in-Ok-Wants-default-clause-cause : goal.returns-in_err-count-in-Ok-Wants-default-clause-cause
