@@ -128,9 +128,8 @@ pub all_chunks : (s : Schema) (p : Plan) (held : Option Files) (o : Opened) (giv
 all_chunks s p held o given R xs x m streams h of_streams all count made of_plan =
     let n = paths_count p in
     let b = behind_all s.fields (plan_paths p) (rows_of o) given (hand.here_of x.leaves.items) (hand.ends_of x.leaves.items) R x.records h.behind all.0 (λ i l. (all.1 i (omega (arith, l, n))).0) in
-    whole_opened s p held o given xs m streams (record {
+    whole_opened s p held o given xs R m streams (record {
       columns = map (λ (q : List Step). column q R) (plan_paths p);
-      records = R;
       have = b.0;
       given_all = (length-map (plan_paths p) (λ (q : List Step). column q R) ∙ n, b.1);
       ends = λ i l. of_streams.ends i (all.1 i l).1;

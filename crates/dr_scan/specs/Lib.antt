@@ -10,5 +10,7 @@ pub mod Makings
 pub mod Streamed
 -- the columns of a file's leaves side by side
 pub mod Chunked
+-- what is left of a file of which the first records were taken
+pub mod Rests
 -- a law, proved on a law function of src/
 pub mod ScanLaws

@@ -9,6 +9,7 @@ mod leaf_streams;
 mod making;
 mod opened;
 mod paths;
+mod rest;
 mod rows;
 mod scanning;
 mod streaming;
