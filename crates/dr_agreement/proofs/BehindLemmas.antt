@@ -14,7 +14,7 @@ use Rattle.dr_meaning.proofs.ColumnStarts.{starts_append, column_rows}
 use Rattle.dr_moves.specs.Leading.{Left, columns_of, has_columns}
 use Rattle.dr_beside.specs.Chunks.{HasColumns, NoneHas, IsChunk, AreChunks}
 use Rattle.dr_beside.proofs.ChunkLemmas.{column_of_both, none_has_chunk}
-use Rattle.dr_agreement.specs.Behind.{GoesOn, IsBehind, IsFront}
+use Rattle.dr_agreement.specs.Behind.{GoesOn, IsMore, IsBehind, IsFront}
 
 -- ---- columns of records by their numbers
 
@@ -69,9 +69,6 @@ behind_nothing fs F rows here ends h none = record {
 
 never : 1 ≤ 0 → ⊥
 never z = omega (arith, z)
-
-abbrev IsMore : ℕ → List Triplet → Left → Left → Type 0
-IsMore k more f g = (g k ≡ f k ++ more) × ((i : ℕ) → i ≢ k → g i ≡ f i)
 
 pub behind_more : (fs : Fields) (F : List (List Step)) (rows : ℕ) (given here now at : Left) (ends others : ℕ → Bool) (R : List Node) (left k : ℕ) (more : List Triplet) → IsBehind fs F rows given here ends R left → IsMore k more given now → IsMore k more here at
     → k < length F → ends k ≡ false → ((i : ℕ) → i ≢ k → others i ≡ ends i) → IsBehind fs F rows now at others R left

@@ -6,3 +6,7 @@ pub mod CutLemmas
 pub mod AloneLemmas
 -- columns of which a front was taken
 pub mod BehindLemmas
+-- what is at hand of leaves' columns
+pub mod AtHandLemmas
+-- the next records of what is at hand
+pub mod FrontsLemmas

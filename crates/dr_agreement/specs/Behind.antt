@@ -1,5 +1,5 @@
 -- Columns of which a front was taken, that of some records.
-use Rattle.std.specs.Prelude.{◌≡◌, ℕ, ◌+◌, ◌<◌, ◌≤◌, List, [], ◌++◌, length, Bool, true}
+use Rattle.std.specs.Prelude.{◌≡◌, ◌≢◌, ℕ, ◌+◌, ◌<◌, ◌≤◌, List, [], ◌++◌, length, Bool, true}
 use Rattle.std.specs.List.{list_all}
 use Rattle.dr_meaning.specs.Schema.{Fields}
 use Rattle.dr_meaning.specs.Path.{Step}
@@ -12,6 +12,10 @@ use Rattle.dr_beside.specs.Chunks.{HasColumns}
 -- so many columns that begin with what was given; where nothing comes behind it, nothing is later
 abbrev pub GoesOn : ℕ → Left → (ℕ → Bool) → List (List Triplet) → Left → Type 0
 GoesOn n given ends C later = (length C ≡ n) × ((i : ℕ) → columns_of C i ≡ given i ++ later i) × ((i : ℕ) → ends i ≡ true → later i ≡ [])
+
+-- of one column there is more, of the others what there was
+abbrev pub IsMore : ℕ → List Triplet → Left → Left → Type 0
+IsMore k more before after = (after k ≡ before k ++ more) × ((i : ℕ) → i ≢ k → after i ≡ before i)
 
 -- of what was given of the columns of so many records, those of some records were taken, and this is left at hand, where the next record begins; so many
 -- records are left

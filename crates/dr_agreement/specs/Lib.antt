@@ -11,3 +11,5 @@ pub mod Cuts
 pub mod Alone
 -- columns of which a front was taken
 pub mod Behind
+-- what is at hand of leaves' columns
+pub mod AtHand

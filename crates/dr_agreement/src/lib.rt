@@ -4,13 +4,18 @@
 
 mod agreement;
 mod alone;
+mod append;
+mod at_hand;
 mod column_of_leaf;
 mod cuts;
 mod fronts;
+mod leaves_at_hand;
 mod outlines;
 
 pub use agreement::Agreement;
 pub use alone::{Alone, each_alone, tests_of};
+pub use at_hand::AtHand;
 pub use column_of_leaf::LeafTest;
 pub use cuts::{count_records, length_of};
 pub use fronts::{Front, front_of};
+pub use leaves_at_hand::{all_passed, fronts_of, least_whole, lengths_of, pass_each, wanting};

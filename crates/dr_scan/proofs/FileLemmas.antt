@@ -1,9 +1,9 @@
 -- What all batches are: the columns of an opened file; or what it says of the file that no records have columns that begin so.
-use Rattle.std.proofs.Common.{◌≡◌, ◌<◌, ◌≤◌, ◌+◌, ◌⊎◌, inl, inr, ℕ, zero, suc, List, [], ◌∷◌, ◌++◌, length, map, drop, get_or, Bool, true, false, Option, Some, None, refl, sym, ap, subst, ◌∙◌, true≢false, arith}
+use Rattle.std.proofs.Common.{◌≡◌, ◌<◌, ◌≤◌, ◌⊎◌, inl, inr, ℕ, zero, suc, List, [], ◌∷◌, ◌++◌, length, map, drop, Bool, true, Option, Some, None, refl, sym, ap, subst, ◌∙◌, true≢false, arith}
 use Rattle.std.specs.List.{list_all, slice_get}
 use Rattle.std.proofs.lemmas.Bool.{and_parts, and_from, cases_lt}
-use Rattle.std.proofs.lemmas.List.{get_or_past, length-map}
-use Rattle.std.proofs.lemmas.Option.{slice_get-map, slice_get_within, slice_get_cases, get_or_from_slice_get}
+use Rattle.std.proofs.lemmas.List.{length-map}
+use Rattle.std.proofs.lemmas.Option.{slice_get_within}
 use Rattle.dr_meaning.specs.Schema.{Schema}
 use Rattle.dr_meaning.specs.Path.{Step, Leaf, paths_of_leaves}
 use Rattle.dr_meaning.specs.Record.{Node}
@@ -15,24 +15,22 @@ use Rattle.dr_nested.specs.PathView.{path_view}
 use Rattle.dr_nested.specs.declared.path.Path.{Path}
 use Rattle.dr_outside.specs.Link.{Files, LinkShown}
 use Rattle.dr_outside.specs.Telling.{Tells, TellsFile}
-use Rattle.dr_outside.specs.declared.cause.Cause.{Cause}
 use Rattle.dr_moves.specs.Leading.{Left, columns_of}
 use Rattle.dr_file.specs.OpenedFiles.{IsOpened, IsColumnOf, path_of, rows_of}
-use Rattle.dr_file.specs.declared.file_fault.FileFault.{FileFault}
 use Rattle.dr_file.specs.declared.opened.Opened.{Opened}
 use Rattle.dr_group.specs.Partials.{IsPartialOf, partial_view}
 use Rattle.dr_partials.specs.Partials.{partial_of}
 use Rattle.dr_plan.specs.Planned.{plan_leaves, plan_view, planned_query}
 use Rattle.dr_plan.specs.declared.plan.Plan.{Plan}
 use Rattle.dr_tablets.specs.Counting.{counted}
-use Rattle.dr_tablets.specs.FileRecords.{AreLeavesOf, AreColumnsOf, AreColumnsOfFile, IsFaultOf, are_short, assemble_fault}
+use Rattle.dr_tablets.specs.FileRecords.{AreLeavesOf, AreColumnsOf, AreColumnsOfFile, IsFaultOf, assemble_fault}
 use Rattle.dr_tablets.proofs.ColumnsLemmas.{leaf_there}
 use Rattle.dr_tablets.proofs.RecordsLemmas.{leaf_at, read_at, data_at, same_footer, columns_of_file}
 use Rattle.dr_walk.specs.Batches.{is_last}
+use Rattle.dr_walk.specs.Walking.{HasColumns}
 use Rattle.dr_walk.specs.declared.fault.AssembleFault.{AssembleFault}
-use Rattle.dr_scan.specs.Streamed.{ends_of, IsTold, AreLeafStreams, Extends, IsWholeScan, NoneBegins, IsOfOpened}
+use Rattle.dr_scan.specs.Streamed.{ends_of, IsTold, AreLeafStreams, Extends, NoneBegins, IsOfOpened}
 use Rattle.dr_scan.specs.declared.leaf_stream.LeafStream.{LeafStream}
-use Rattle.dr_scan.specs.declared.making.Making.{Making}
 use Rattle.dr_scan.specs.declared.opened.Made.{Made}
 use Rattle.dr_scan.proofs.StreamLemmas.{stream_there, end_of_stream, end_past}
 use Rattle.dr_scan.proofs.Tabulated.{tabulated, tabulated_of, short_by}
@@ -78,13 +76,28 @@ columns_by bytes (l ∷ F) [] n h = absurd (never (omega (arith, n)))
     never z = omega (arith, z)
 columns_by bytes (l ∷ F) (c ∷ C) n h = (h 0 l refl, columns_by bytes F C (omega (arith, n)) (λ i m e. h (suc i) m e))
 
+-- all was given, of columns that are what the streams gave, each of which is at its end, and that these records have
+pub record IsWholeFile (s : Schema) (p : Plan) (rows : ℕ) (given : Left) (ended : List Bool) (R : List Node) : Type 0 where
+  pub columns : List (List Triplet)
+  pub have : HasColumns s.fields (paths_of_leaves (plan_leaves p)) columns rows R
+  pub given_all : (length columns ≡ length (plan_leaves p)) × ((i : ℕ) → columns_of columns i ≡ given i)
+  pub ends : (i : ℕ) → i < length (plan_leaves p) → is_last ended i ≡ true
+
+-- of no leaf too much was given
+pub few_given : (held : Option Files) (o : Opened) (F : List Leaf) (given : Left) (xs : List LeafStream) → AreLeafStreams held o F given xs → (i : ℕ) → i < length F → length (given i) ≤ most_triplets
+few_given held o F given xs are i h =
+    let l = leaf_there F i h in
+    let y = stream_there F xs i l.0 are.as_many l.1 in
+    let k = (are.each i l.0 y.0 l.1 y.1).few in
+    omega (arith, k)
+
 -- what the streams gave, where each is at its end
-pub whole_opened : (s : Schema) (p : Plan) (held : Option Files) (o : Opened) (given : Left) (xs : List LeafStream) (m : Making) (x : Made) → AreLeafStreams held o (plan_leaves p) given xs
-    → (w : IsWholeScan s p (rows_of o) given (ends_of xs) m) → x.triplets ≡ counted 0 (triplet_count (tabulated (length (plan_leaves p)) given))
-    → partial_view x.partial ≡ partial_of s.fields (planned_query (plan_view p)) w.records → IsPartialOf (plan_view p) x.partial → IsOfOpened s p held o x
-whole_opened s p held o given xs m x are w count made of_plan = record {
+pub whole_opened : (s : Schema) (p : Plan) (held : Option Files) (o : Opened) (given : Left) (xs : List LeafStream) (R : List Node) (x : Made) → AreLeafStreams held o (plan_leaves p) given xs
+    → IsWholeFile s p (rows_of o) given (ends_of xs) R → x.triplets ≡ counted 0 (triplet_count (tabulated (length (plan_leaves p)) given))
+    → partial_view x.partial ≡ partial_of s.fields (planned_query (plan_view p)) R → IsPartialOf (plan_view p) x.partial → IsOfOpened s p held o x
+whole_opened s p held o given xs R x are w count made of_plan = record {
   columns = w.columns;
-  partial = (w.records, w.have, made);
+  partial = (R, w.have, made);
   of_plan = of_plan;
   short = short_by w.columns (λ i l. few i (omega (arith, l, w.given_all.0)));
   so_many = count ∙ ap (λ (C : List (List Triplet)). counted 0 (triplet_count C)) (sym (tabulated_of w.columns given w.given_all.1 ∙ ap (λ (n : ℕ). tabulated n given) w.given_all.0));
@@ -92,12 +105,7 @@ whole_opened s p held o given xs m x are w count made of_plan = record {
 }
   where
     few : (i : ℕ) → i < length (plan_leaves p) → length (columns_of w.columns i) ≤ most_triplets
-    few i h =
-        let l = leaf_there (plan_leaves p) i h in
-        let y = stream_there (plan_leaves p) xs i l.0 are.as_many l.1 in
-        let k = (are.each i l.0 y.0 l.1 y.1).few in
-        let n = ap length (w.given_all.1 i) in
-        omega (arith, k, n)
+    few i h = let k = few_given held o (plan_leaves p) given xs are i h in let n = ap length (w.given_all.1 i) in omega (arith, k, n)
 
     is_column : (bytes : List ℕ) → IsTold held o (plan_leaves p) bytes → (i : ℕ) (l : Leaf) → slice_get (plan_leaves p) i ≡ Some l → IsColumnOf bytes l (columns_of w.columns i)
     is_column bytes told i l e =

@@ -13,8 +13,13 @@ pub mod Tabulated
 pub mod StretchLemmas
 pub mod StreamLemmas
 pub mod FileLemmas
+-- what lies behind the columns of the first records, and what is left of a file where they were taken
+pub mod FrontLemmas
+pub mod RestLemmas
 -- stretch by stretch
 pub mod UnderwayLemmas
+-- chunk by chunk
+pub mod ChunkedLemmas
 -- the copies of one tablet
 pub mod TabletLemmas
 -- the truth of tablets

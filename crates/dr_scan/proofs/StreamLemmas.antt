@@ -26,7 +26,6 @@ use Rattle.dr_walk.specs.declared.level_walk.LevelWalk.{LevelWalk}
 use Rattle.dr_walk.proofs.WalkLemmas.{not_known}
 use Rattle.dr_scan.specs.Streamed.{last_of, batch_at, left_at, ends_of, IsTold, IsLeafStream, AreLeafStreams, AreRefilled, with_more, with_batch, Extends, IsStreamed}
 use Rattle.dr_scan.specs.declared.leaf_stream.LeafStream.{LeafStream}
-use Rattle.dr_scan.proofs.StretchLemmas.{nothing_later}
 
 -- ---- streams by their numbers
 
@@ -61,24 +60,24 @@ stream_there F xs i l n e = by_case (slice_get_cases xs i).1
 
 -- ---- the beginning
 
-pub streams_begin : (s : Schema) (p : Plan) (rows n : ℕ) (ended : List Bool) (w : LevelWalk) (here : Left) → n ≡ length (plan_leaves p) → w.wanted ≡ first_wanted n → ((i : ℕ) → here i ≡ [])
-    → ((C : List (List Triplet)) → length C ≡ n → IsAtLevels s.fields (paths_of_leaves (plan_leaves p)) rows C [] (columns_of C) w) → IsStreamed s p rows nothing_later ended [] w here
-streams_begin s p rows n ended w here e q none at = record {
+pub streams_begin : (s : Schema) (p : Plan) (rows n : ℕ) (ended : List Bool) (w : LevelWalk) (here : Left) → n ≡ length (plan_leaves p) → w.wanted ≡ first_wanted n → ((i : ℕ) → length (plan_leaves p) ≤ i → here i ≡ [])
+    → ((C : List (List Triplet)) → length C ≡ n → IsAtLevels s.fields (paths_of_leaves (plan_leaves p)) rows C [] (columns_of C) w) → IsStreamed s p rows here ended [] w here
+streams_begin s p rows n ended w here e q past at = record {
   over = λ C later x. let c : length C ≡ n = x.0 ∙ sym e in record {
     left = columns_of C;
     at = at C c;
-    rest = λ i. x.1 i ∙ ap (λ (ts : List Triplet). ts ++ later i) (sym (none i));
-    heard = λ i h z. sym (x.1 i) ∙ past C i c (at C c) h;
+    rest = x.1;
+    heard = λ i h z. ap (λ (ts : List Triplet). ts ++ later i) (sym z) ∙ (sym (x.1 i) ∙ known C i c (at C c) h);
   };
-  past = λ i h. refl;
+  past = past;
   nests = refl;
 }
   where
     never_less : (i : ℕ) → nat_lt i 0 ≡ false
     never_less i = grind (arith, nat_tests)
 
-    past : (C : List (List Triplet)) (i : ℕ) → length C ≡ n → IsAtLevels s.fields (paths_of_leaves (plan_leaves p)) rows C [] (columns_of C) w → is_known w.wanted w.given i ≡ true → columns_of C i ≡ []
-    past C i c x h = by_count n q c
+    known : (C : List (List Triplet)) (i : ℕ) → length C ≡ n → IsAtLevels s.fields (paths_of_leaves (plan_leaves p)) rows C [] (columns_of C) w → is_known w.wanted w.given i ≡ true → columns_of C i ≡ []
+    known C i c x h = by_count n q c
       where
         none_gave : w.given ≡ 0
         none_gave = let g = x.gave in omega (arith, g)
@@ -243,6 +242,9 @@ batches_none xs h i = by_case (slice_get_cases xs i).1
 pub nothing_left : (xs : List LeafStream) (counts : List ℕ) → ((i : ℕ) → batch_at xs i ≡ []) → (i : ℕ) → left_at xs counts i ≡ []
 nothing_left xs counts h i = ap (last_of (get_or counts i 0)) (h i) ∙ last_none (get_or counts i 0)
 
+pub nothing_past : (xs : List LeafStream) (counts : List ℕ) (i : ℕ) → length xs ≤ i → left_at xs counts i ≡ []
+nothing_past xs counts i h = ap (last_of (get_or counts i 0)) (batch_past xs i h) ∙ last_none (get_or counts i 0)
+
 -- one rest more
 pub rest_pushed : (rs : List Triplets) (r : Triplets) (f : Left) (n i : ℕ) → length rs ≡ n → ((j : ℕ) → j < n → rest_at rs j ≡ f j) → triplets_view r ≡ f n → i < n + 1 → rest_at (rs ++ r ∷ []) i ≡ f i
 rest_pushed rs r f n i e h k l = ap (λ (ts : List (List Triplet)). get_or ts i []) (map_push triplets_view rs r) ∙ by_side (cases_lt i n)
@@ -261,7 +263,7 @@ rests_all rs xs counts e h i = by_side (cases_lt i (length xs))
     by_side (inl z) = h i z
     by_side (inr z) =
         let n = length-map rs triplets_view in
-        get_or_past (map triplets_view rs) i [] (omega (arith, n, e, z)) ∙ sym (ap (last_of (get_or counts i 0)) (batch_past xs i z) ∙ last_none (get_or counts i 0))
+        get_or_past (map triplets_view rs) i [] (omega (arith, n, e, z)) ∙ sym (nothing_past xs counts i z)
 
 -- ---- another stream in the place of one
 

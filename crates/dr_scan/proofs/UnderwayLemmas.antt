@@ -1,5 +1,5 @@
 -- A plan's moves over the streams of an opened file, stretch by stretch.
-use Rattle.std.proofs.Common.{◌≡◌, ◌≢◌, ◌<◌, ◌+◌, ◌-◌, ℕ, zero, suc, List, [], ◌∷◌, ◌++◌, length, map, drop, get_or, Bool, true, false, Option, Some, None, refl, sym, ap, ap₂, subst, ◌∙◌, true≢false, arith}
+use Rattle.std.proofs.Common.{◌≡◌, ◌≢◌, ◌<◌, ◌-◌, ℕ, zero, suc, List, [], ◌∷◌, ◌++◌, length, map, drop, get_or, Bool, true, false, Option, refl, sym, ap, ap₂, subst, ◌∙◌, true≢false, arith}
 use Rattle.std.specs.Prelude.{◌==◌, slice_set, Result, Ok, Err, IsErrAnd, IsTrue}
 use Rattle.std.specs.declared.vec.Vec.{Vec}
 use Rattle.std.specs.declared.alloc.Global.{Global}
@@ -7,7 +7,8 @@ use Rattle.std.proofs.lemmas.Bool.{eqb-true, ne_eqb}
 use Rattle.std.proofs.lemmas.Bool.Decides.{nat_tests}
 use Rattle.std.proofs.lemmas.List.{get_or-set_same, get_or-set_other, length-map}
 use Rattle.dr_meaning.specs.Schema.{Schema}
-use Rattle.dr_meaning.specs.Path.{Leaf}
+use Rattle.dr_meaning.specs.Path.{Leaf, paths_of_leaves}
+use Rattle.dr_meaning.specs.Record.{Node}
 use Rattle.dr_meaning.specs.Column.{Triplet}
 use Rattle.dr_meaning.specs.Walk.{Move}
 use Rattle.dr_formats.specs.Writing.{triplet_count}
@@ -20,6 +21,7 @@ use Rattle.dr_file.specs.Leaving.{LeavesLinkCounted, ServesOpened}
 use Rattle.dr_file.specs.OpenedFiles.{HasCounts, is_link_fault, path_of, rows_of}
 use Rattle.dr_file.specs.declared.file_fault.FileFault.{FileFault}
 use Rattle.dr_file.specs.declared.opened.Opened.{Opened}
+use Rattle.dr_group.specs.declared.partial.Partial.{Partial}
 use Rattle.dr_plan.specs.Planned.{plan_leaves}
 use Rattle.dr_plan.specs.declared.plan.Plan.{Plan}
 use Rattle.dr_tablets.specs.Counting.{counted}
@@ -30,7 +32,10 @@ use Rattle.dr_walk.specs.declared.fault.AssembleFault.{AssembleFault}
 use Rattle.dr_within.specs.Rows.{HasRead, HasLast}
 use Rattle.dr_within.specs.declared.row.Row.{Row}
 use Rattle.dr_within.specs.declared.last_read.LastRead.{LastRead}
+use Rattle.dr_agreement.specs.Behind.{IsBehind}
+use Rattle.dr_agreement.proofs.BehindLemmas.{behind_more}
 use Rattle.dr_scan.specs.Makings.{Makes}
+use Rattle.dr_scan.specs.Rests.{IsMadeOf}
 use Rattle.dr_scan.specs.Streamed.{last_of, batch_at, left_at, ends_of, AreLeafStreams, AreRefilled, with_more, with_batch, IsTold, IsStreamed, IsScanned, IsBetween, EndsStretch, EndsAtHand}
 use Rattle.dr_scan.specs.declared.leaf_stream.LeafStream.{LeafStream}
 use Rattle.dr_scan.specs.declared.making.Making.{Making}
@@ -38,12 +43,18 @@ use Rattle.dr_scan.specs.declared.stretch.Stretch.{Stretch}
 use Rattle.dr_scan.proofs.StreamLemmas.{streamed_same, counts_here, batch_streamed}
 use Rattle.dr_scan.proofs.Tabulated.{tabulated, tabulated_count}
 
--- the streams gave these triplets of an opened file's columns, a walk over their batches gave moves, and of these this was made
-pub record IsUnderway (s : Schema) (p : Plan) (held : Option Files) (o : Opened) (xs : List LeafStream) (left : List ℕ) (w : LevelWalk) (m : Making) (r : LastRead) (read : ℕ) : Type 0 where
+-- the streams gave these triplets of an opened file's columns, of which those of the first records were taken; a walk over the others gave moves, and of
+-- these this was made, and that of the first records
+pub record IsUnderway (s : Schema) (p : Plan) (held : Option Files) (o : Opened) (xs : List LeafStream) (left : List ℕ) (w : LevelWalk) (m : Making) (r : LastRead) (read : ℕ) (before : Option Partial) : Type 0 where
+  pub records : List Node
+  pub come : ℕ
   pub given : Left
+  pub back : Left
   pub moves : List Move
   pub streams : AreLeafStreams held o (plan_leaves p) given xs
-  pub streamed : IsStreamed s p (rows_of o) given (ends_of xs) moves w (left_at xs left)
+  pub behind : IsBehind s.fields (paths_of_leaves (plan_leaves p)) (rows_of o) given back (is_last (ends_of xs)) records come
+  pub made : IsMadeOf s p records before
+  pub streamed : IsStreamed s p come back (ends_of xs) moves w (left_at xs left)
   pub makes : Makes s p moves m
   pub reads : HasLast (length (plan_leaves p)) moves r
   pub count : read ≡ counted 0 (triplet_count (tabulated (length (plan_leaves p)) given))
@@ -55,15 +66,22 @@ last_all : (ts : List Triplet) → last_of (length ts) ts ≡ ts
 last_all ts = let z : length ts - length ts ≡ 0 = omega arith in ap (λ (n : ℕ). drop n ts) z
 
 -- a stretch ended, and the leaf that it wanted has its next batch
-pub goes_on : (s : Schema) (p : Plan) (held : Option Files) (o : Opened) (xs ys : List LeafStream) (before left : List ℕ) (w : LevelWalk) (m : Making) (r : LastRead) (i read count now : ℕ) (given : Left)
-    → read ≡ counted 0 (triplet_count (tabulated (length (plan_leaves p)) given)) → IsBetween s p (rows_of o) given (ends_of xs) (left_at xs before) w m r i left
-    → AreRefilled held o (plan_leaves p) given i xs ys count → length xs ≡ length (plan_leaves p) → now ≡ counted read count → IsUnderway s p held o ys (slice_set left i count) w m r now
-goes_on s p held o xs ys before left w m r i read count now given e b a n q = record {
+pub goes_on : (s : Schema) (p : Plan) (held : Option Files) (o : Opened) (xs ys : List LeafStream) (lefts left : List ℕ) (w : LevelWalk) (m : Making) (r : LastRead) (i read count now come : ℕ) (before : Option Partial) (records : List Node) (given back : Left)
+    → IsBehind s.fields (paths_of_leaves (plan_leaves p)) (rows_of o) given back (is_last (ends_of xs)) records come → IsMadeOf s p records before → read ≡ counted 0 (triplet_count (tabulated (length (plan_leaves p)) given))
+    → IsBetween s p come back (ends_of xs) (left_at xs lefts) w m r i left → AreRefilled held o (plan_leaves p) given i xs ys count → length xs ≡ length (plan_leaves p) → now ≡ counted read count
+    → IsUnderway s p held o ys (slice_set left i count) w m r now before
+goes_on s p held o xs ys lefts left w m r i read count now come before records given back h made e b a n q = record {
+  records = records;
+  come = come;
   given = with_more i a.more given;
+  back = with_more i a.more back;
   moves = b.moves;
   streams = a.streams;
-  streamed = streamed_same s p (rows_of o) (with_more i a.more given) (ends_of ys) (ends_of ys) b.moves w (with_batch i a.more b.here) (left_at ys (slice_set left i count)) (λ k. refl) (λ k. left_now k (k == i) refl)
-      (batch_streamed s p (rows_of o) given b.here (ends_of xs) (ends_of ys) b.moves w i a.more b.streamed b.wants.wanted b.wants.passed b.wants.within b.wants.goes_on a.ends);
+  behind = behind_more s.fields (paths_of_leaves (plan_leaves p)) (rows_of o) given back (with_more i a.more given) (with_more i a.more back) (is_last (ends_of xs)) (is_last (ends_of ys)) records come i a.more h
+      (with_here given, λ k d. with_others given k d) (with_here back, λ k d. with_others back k d) (let k = length-map (plan_leaves p) (λ (l : Leaf). l.path) in let l = b.wants.within in omega (arith, k, l)) b.wants.goes_on a.ends;
+  made = made;
+  streamed = streamed_same s p come (with_more i a.more back) (ends_of ys) (ends_of ys) b.moves w (with_batch i a.more b.here) (left_at ys (slice_set left i count)) (λ k. refl) (λ k. left_now k (k == i) refl)
+      (batch_streamed s p come back b.here (ends_of xs) (ends_of ys) b.moves w i a.more b.streamed b.wants.wanted b.wants.passed b.wants.within b.wants.goes_on a.ends);
   makes = b.makes;
   reads = b.reads;
   count =
@@ -93,7 +111,7 @@ goes_on s p held o xs ys before left w m r i read count now given e b a n q = re
     left_now k false z =
         let batch : batch_at ys k ≡ batch_at xs k = a.here k ∙ rw z refl in
         let so_many : get_or (slice_set left i count) k 0 ≡ get_or left k 0 = get_or-set_other left i k count 0 (apart k z) in
-        ap₂ last_of so_many batch ∙ (counts_here xs before left b.here b.shrinks b.counts k ∙ sym (rw z refl))
+        ap₂ last_of so_many batch ∙ (counts_here xs lefts left b.here b.shrinks b.counts k ∙ sym (rw z refl))
 
 -- ---- the link
 

@@ -8,5 +8,9 @@ pub mod Tables
 -- what a plan makes of moves, and the streams of an opened file's leaves
 pub mod Makings
 pub mod Streamed
+-- the columns of a file's leaves side by side
+pub mod Chunked
+-- what is left of a file of which the first records were taken
+pub mod Rests
 -- a law, proved on a law function of src/
 pub mod ScanLaws

@@ -82,6 +82,7 @@ impl<'f> LeafStream<'f> {
         ensures link { refused_of (self.old).stream ≡ None
             → LeavesLinkCounted result (ServesOpened (L.shows link.old) (file_of (self.old).stream))
             (L.shows link.old) (L.shows link.new) }
+        ensures form { column_form (self.new).batch ≡ column_form (self.old).batch }
     {
         self.batch.clear();
         let some = self.stream.next(alloc, link, &mut self.batch)?;

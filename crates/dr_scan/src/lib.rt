@@ -2,12 +2,14 @@
 //! that gives one. Of each leaf's column a batch is held at a time.
 #![tactic(auto)]
 
+mod chunks;
 pub mod laws;
 mod leaf_stream;
 mod leaf_streams;
 mod making;
 mod opened;
 mod paths;
+mod rest;
 mod rows;
 mod scanning;
 mod streaming;

@@ -14,8 +14,10 @@ ghost use Rattle.dr_plan.specs.Planned.{IsOfSchema, plan_leaves};
 ghost use Rattle.dr_tablets.specs.FileRecords.{IsFaultOf};
 ghost use Rattle.dr_scan.specs.Streamed.{IsTold, IsOfOpened};
 
+use crate::chunks::partial_of_chunks;
 use crate::rows::partial_of_rows;
 use crate::streaming::partial_of_streams;
+use dr_columns::ColumnScan;
 use dr_file::{FileFault, Opened};
 use dr_group::Partial;
 use dr_nested::Schema;
@@ -31,8 +33,8 @@ pub(crate) struct Made {
     pub(crate) triplets: u64,
 }
 
-/// A plan's partial of the records of an opened file. Of records of which no leaf is read it is made without a walk,
-/// where that can be.
+/// A plan's partial of the records of an opened file. Of records of which no leaf is read it is made without a look at
+/// them, where that can be; where a plan gives groups of all records, by their columns side by side; else by a walk.
 ///
 /// Errors: the link failed, with its counts of faults before and after this call; `BadData` where the leaves' chunks
 /// spell no columns of any records; want of memory, or of room for the partial.
@@ -61,6 +63,9 @@ pub(crate) fn partial_of_opened<L: Link>(
             partial,
             triplets: 0,
         }),
-        None => partial_of_streams(alloc, schema, plan, link, opened),
+        None => match ColumnScan::start(alloc, plan)? {
+            Some(scan) => partial_of_chunks(alloc, schema, plan, link, opened, scan),
+            None => partial_of_streams(alloc, schema, plan, link, opened),
+        },
     }
 }

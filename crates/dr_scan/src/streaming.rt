@@ -18,19 +18,21 @@ ghost use Rattle.dr_plan.specs.declared.plan.Plan.{Plan as MeantPlan};
 ghost use Rattle.dr_tablets.specs.FileRecords.{IsFaultOf};
 ghost use Rattle.dr_within.specs.Rows.{HasLast};
 ghost use Rattle.dr_scan.specs.Makings.{Makes};
+ghost use Rattle.dr_scan.specs.Rests.{IsRestOf};
 ghost use Rattle.dr_scan.specs.Streamed.{left_at, ends_of as meant_ends, IsTold, IsStreamed, MayGoOn, EndsAtHand, IsOfOpened};
 
 use crate::leaf_stream::LeafStream;
-use crate::leaf_streams::{counts_of, ends_of, leaf_streams, refill_at, rests_of, set_count};
+use crate::leaf_streams::{counts_of, ends_of, refill_at, rests_of, set_count};
 use crate::making::Making;
 use crate::opened::Made;
 use crate::paths::steps_of;
+use crate::rest::{Rest, join_made};
 use crate::stretch::{Stretch, make_stretch};
 use dr_file::{FileFault, Opened};
 use dr_nested::Schema;
 use dr_outside::Link;
 use dr_plan::Plan;
-use dr_tablets::{Steps, file_fault};
+use dr_tablets::file_fault;
 use dr_walk::{AssembleFault, LevelWalk};
 use dr_within::LastRead;
 use std::alloc::Global;
@@ -68,6 +70,68 @@ fn make_at_hand(
     Ok((end, counts))
 }
 
+/// A plan's partial of the records of an opened file, of which what was made of the first of them is there: by the walk
+/// over what is left of the columns of its leaves, of which a batch each is held.
+///
+/// Errors: the link failed, with its counts of faults before and after this call; `BadData` where the leaves' chunks
+/// spell no columns of any records; want of memory, or of room for the partial.
+pub(crate) fn partial_of_rest<L: Link>(
+    alloc: Global,
+    schema: &Schema,
+    plan: &Plan,
+    link: &mut L,
+    opened: &Opened,
+    mut rest: Rest<'_>,
+) -> Result<Made, FileFault>
+    requires planned { IsOfSchema (schema_view schema.now) plan.now }
+    requires rest { IsRestOf (schema_view schema.now) plan.now (L.shows link.old).held opened.now rest }
+    ensures partial { IfOk result (IsOfOpened (schema_view schema.now) plan.now (L.shows link.old).held opened.now) }
+    ensures cause { (bytes : List ℕ) → IsTold (L.shows link.old).held opened.now (plan_leaves plan.now) bytes
+        → IfErr result (IsFaultOf bytes (schema_view schema.now) (plan_leaves plan.now)) }
+    ensures asked { (bytes : List ℕ) (f : Footer)
+        → IsTold (L.shows link.old).held opened.now (plan_leaves plan.now) bytes → footer_of bytes ≡ Some f
+        → AsksOnly (is_read_inside (path_of opened.now) (flat_map (leaf_ranges f) (leaves_read f (plan_leaves plan.now))))
+        (L.shows link.old).asked (L.shows link.new).asked }
+    ensures paths { AsksOnly (is_for_path (path_of opened.now)) (L.shows link.old).asked (L.shows link.new).asked }
+    ensures link { LeavesLinkCounted result (ServesOpened (L.shows link.old) opened.now) (L.shows link.old)
+        (L.shows link.new) }
+{
+    let fields = steps_of(alloc, &plan.leaves)?;
+    let mut walk = LevelWalk::start(alloc, schema, &fields, rest.records)?;
+    let mut making = Making::start(alloc, schema, plan)?;
+    let mut last = LastRead::new(alloc, plan.leaves.len())?;
+    let mut next = LastRead::new(alloc, plan.leaves.len())?;
+    // No file has more batches.
+    'stretches: for _ in 0..u64::MAX {
+        match make_at_hand(
+            alloc,
+            &mut walk,
+            &rest.streams,
+            &rest.left,
+            &mut making,
+            &last,
+            &mut next,
+        ) {
+            Ok((Stretch::Ended, _)) => {
+                let made = making.close(alloc, plan)?;
+                return Ok(Made {
+                    partial: join_made(alloc, rest.made, made)?,
+                    triplets: rest.read.taken(),
+                });
+            }
+            Ok((Stretch::Wants(leaf), counts)) => {
+                rest.left = counts;
+                mem::swap(&mut last, &mut next);
+                let count = refill_at(alloc, link, &mut rest.streams, leaf)?;
+                set_count(&mut rest.left, leaf, count);
+                rest.read.add(count as u64);
+            }
+            Err(fault) => return Err(file_fault(fault)),
+        }
+    }
+    Err(FileFault::NoMemory)
+}
+
 /// A plan's partial of the records of an opened file, by the walk over the columns of its leaves, of which a batch each
 /// is held.
 ///
@@ -93,41 +157,6 @@ pub(crate) fn partial_of_streams<L: Link>(
     ensures link { LeavesLinkCounted result (ServesOpened (L.shows link.old) opened.now) (L.shows link.old)
         (L.shows link.new) }
 {
-    let fields = steps_of(alloc, &plan.leaves)?;
-    let mut streams = leaf_streams(alloc, opened, plan.leaves.len())?;
-    let mut walk = LevelWalk::start(alloc, schema, &fields, opened.rows())?;
-    let mut making = Making::start(alloc, schema, plan)?;
-    let mut last = LastRead::new(alloc, plan.leaves.len())?;
-    let mut next = LastRead::new(alloc, plan.leaves.len())?;
-    let mut left = Vec::new(alloc);
-    let mut read = Steps::new();
-    // No file has more batches.
-    'stretches: for _ in 0..u64::MAX {
-        match make_at_hand(
-            alloc,
-            &mut walk,
-            &streams,
-            &left,
-            &mut making,
-            &last,
-            &mut next,
-        ) {
-            Ok((Stretch::Ended, _)) => {
-                let partial = making.close(alloc, plan)?;
-                return Ok(Made {
-                    partial,
-                    triplets: read.taken(),
-                });
-            }
-            Ok((Stretch::Wants(leaf), counts)) => {
-                left = counts;
-                mem::swap(&mut last, &mut next);
-                let count = refill_at(alloc, link, &mut streams, leaf)?;
-                set_count(&mut left, leaf, count);
-                read.add(count as u64);
-            }
-            Err(fault) => return Err(file_fault(fault)),
-        }
-    }
-    Err(FileFault::NoMemory)
+    let rest = Rest::whole(alloc, opened, plan.leaves.len())?;
+    partial_of_rest(alloc, schema, plan, link, opened, rest)
 }

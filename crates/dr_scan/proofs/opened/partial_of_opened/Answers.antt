@@ -27,3 +27,6 @@ returns-in-Some-clause-partial g c =
       so_many = refl;
       file = λ bytes told. subst (λ (F : List Leaf). AreColumnsOf bytes F []) (sym (nil_from_length (map path_view p.leaves.items) none)) tt;
     }
+
+pub partial_of_chunks-requires-clause-scan : goal.partial_of_chunks-requires-clause-scan
+partial_of_chunks-requires-clause-scan g c = some_is _ _ c.in-Some-2.scan c.in-Some-2.is c.in_ok-scan-in-None.ensures.taken (schema_view c.args.schema.now) c.requires.planned

@@ -11,12 +11,12 @@ use Rattle.dr_file.specs.OpenedFiles.{path_of}
 use Rattle.dr_plan.specs.Planned.{plan_leaves}
 use Rattle.dr_scan.specs.Streamed.{IsTold}
 use Rattle.dr_scan.proofs.UnderwayLemmas.{IsUnderway}
-use Rattle.dr_scan.proofs.streaming.partial_of_streams.Given as goal
+use Rattle.dr_scan.proofs.streaming.partial_of_rest.Given as goal
 
 -- what the streams gave is walked, and the link served each call
 abbrev pub invariant-stretches : goal.invariant-stretches
 invariant-stretches g l = record {
-  at : IsUnderway (schema_view l.schema) l.plan (g.L.Link.shows l.initial.link).held l.opened l.streams.items l.left.items l.walk l.making l.last l.read;
+  at : IsUnderway (schema_view l.schema) l.plan (g.L.Link.shows l.initial.link).held l.opened l.rest.streams.items l.rest.left.items l.walk l.making l.last l.rest.read l.rest.made;
   as_many : length l.next.values.items ≡ length (plan_leaves l.plan);
   same : (g.L.Link.shows l.link).held ≡ (g.L.Link.shows l.initial.link).held;
   calm : (g.L.Link.shows l.link).faults ≡ (g.L.Link.shows l.initial.link).faults;
