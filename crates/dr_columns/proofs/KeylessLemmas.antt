@@ -1,5 +1,5 @@
 -- What is put of rows where there are no keys: all are of one group.
-use Rattle.std.proofs.Common.{◌≡◌, ◌<◌, ℕ, zero, suc, List, [], ◌∷◌, ◌++◌, map, length, replicate, Bool, Option, Some, None, Result, Ok, Err, IfOk, refl, sym, ap, ap₂, ◌∙◌, arith}
+use Rattle.std.proofs.Common.{◌≡◌, ℕ, zero, suc, List, [], ◌∷◌, ◌++◌, map, length, replicate, Bool, Option, Some, None, Result, Ok, Err, IfOk, refl, sym, ap, ap₂, ◌∙◌, arith}
 use Rattle.std.specs.List.{slice_get, flat_map}
 use Rattle.std.proofs.lemmas.List.{length-replicate}
 use Rattle.std.specs.Ordering.{match_ordering}
@@ -9,7 +9,6 @@ use Rattle.dr_memory.specs.declared.NoMemory.{NoMemory}
 use Rattle.dr_meaning.specs.Record.{Value}
 use Rattle.dr_meaning.specs.Column.{Triplet}
 use Rattle.dr_meaning.specs.Query.{GroupItem, tuple_order}
-use Rattle.dr_partials.specs.Accumulators.{Accumulator}
 use Rattle.dr_partials.specs.Partials.{Group}
 use Rattle.dr_partials.specs.Putting.{Put, put_group, put_into, empty_accumulators}
 use Rattle.dr_partials.specs.GroupPuts.{put_each}
@@ -27,8 +26,8 @@ use Rattle.dr_columns.specs.ExprRows.{value_in}
 use Rattle.dr_columns.specs.Own.{HasOwn}
 use Rattle.dr_columns.specs.RecordRows.{rows_of}
 use Rattle.dr_columns.specs.Rows.{Row, Follower, run, in_slot, source_view}
-use Rattle.dr_columns.specs.RowPuts.{keys_in, groups_in, puts_in}
-use Rattle.dr_columns.specs.Numbers.{LeavesToPut, HasPut}
+use Rattle.dr_columns.specs.RowPuts.{groups_in, puts_in}
+use Rattle.dr_columns.specs.Numbers.{HasPut}
 use Rattle.dr_columns.specs.Takings.{Take, CanFire, taking_puts, puts_by}
 use Rattle.dr_columns.proofs.RunLemmas.{own_slots}
 

@@ -94,7 +94,7 @@ fn is_only(keys: &[u32], leaf: u32) -> bool
     }
 }
 
-/// Puts the number of the group of each of a leaf's rows. Where the leaf is the only key, its own values alone are read.
+/// Puts the number of the group of each of a leaf's rows. Where the leaf is the only key, its values alone are read.
 ///
 /// Errors: want of memory, or of room for a number.
 pub(crate) fn number_rows<'r>(

@@ -23,7 +23,8 @@ fn is_truth(truth: &Truth, leaf: u32) -> bool
 
 /// Whether a number is a leaf's own.
 fn is_number(number: &Number, leaf: u32) -> bool
-    ensures { result ≡ true → (read : ℕ → Option Value) → number_over read number.now ≡ of_type number_type (read leaf) }
+    ensures { result ≡ true → (read : ℕ → Option Value)
+        → number_over read number.now ≡ of_type number_type (read leaf) }
 {
     match number {
         Number::Leaf(read) => *read == leaf,

@@ -1,5 +1,4 @@
 use Rattle.std.proofs.Common.{◌≡◌, ◌∙◌, ◌<◌, [], ◌∷◌, ℕ, List, Option, Some, ap, length, subst, sym}
-use Rattle.std.specs.List.{slice_get}
 use Rattle.dr_meaning.specs.Record.{Value}
 use Rattle.dr_levels.specs.declared.triplet.ValueRef.{ValueRef}
 use Rattle.dr_partials.specs.Putting.{Put}

@@ -1,9 +1,8 @@
-use Rattle.std.proofs.Common.{◌≡◌, ◌<◌, ◌≤◌, ◌∙◌, ◌+◌, [], ℕ, List, Option, Some, length, drop, get_or, map, ap, sym, subst, refl, arith}
+use Rattle.std.proofs.Common.{◌≡◌, ◌<◌, ◌≤◌, ◌∙◌, ◌+◌, [], ℕ, List, Option, length, drop, get_or, map, ap, sym, subst, refl, arith}
 use Rattle.std.specs.List.{slice_get, flat_map}
-use Rattle.std.proofs.lemmas.List.{length-map, drop_all}
+use Rattle.std.proofs.lemmas.List.{length-map}
 use Rattle.dr_meaning.specs.Column.{Triplet}
 use Rattle.dr_meaning.specs.Record.{Value}
-use Rattle.dr_partials.specs.Putting.{Put}
 use Rattle.dr_levels.specs.Views.{triplets_view}
 use Rattle.dr_agreement.proofs.OutlinedLemmas.{column_of}
 use Rattle.dr_beside.specs.Neighbours.{column_at}

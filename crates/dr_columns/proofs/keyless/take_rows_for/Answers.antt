@@ -1,8 +1,7 @@
-use Rattle.std.proofs.Common.{◌≡◌, ◌<◌, ◌∙◌, [], ℕ, List, Option, None, length, map, replicate, ap, sym, subst, arith}
+use Rattle.std.proofs.Common.{◌≡◌, ◌<◌, ◌∙◌, [], ℕ, List, None, length, map, replicate, ap, sym, subst, arith}
 use Rattle.std.proofs.lemmas.Result.{IfOk-weaker}
 use Rattle.std.proofs.lemmas.List.{length-map}
 use Rattle.dr_meaning.specs.Column.{Triplet}
-use Rattle.dr_meaning.specs.Record.{Value}
 use Rattle.dr_partials.specs.Putting.{Put}
 use Rattle.dr_levels.specs.Views.{triplets_view}
 use Rattle.dr_agreement.proofs.OutlinedLemmas.{column_of}
@@ -15,7 +14,7 @@ use Rattle.dr_columns.specs.RowPuts.{puts_in}
 use Rattle.dr_columns.specs.Rows.{Row, run, source_view}
 use Rattle.dr_columns.specs.RowsView.{rows_view}
 use Rattle.dr_columns.specs.Takings.{puts_by, takings_view}
-use Rattle.dr_columns.proofs.KeylessLemmas.{rows_at_once, values_at_once, own_at_once}
+use Rattle.dr_columns.proofs.KeylessLemmas.{rows_at_once, own_at_once}
 use Rattle.dr_columns.proofs.keyless.take_rows_for.Goals as goal
 
 pub returns-in-Rows-clause-put : goal.returns-in-Rows-clause-put

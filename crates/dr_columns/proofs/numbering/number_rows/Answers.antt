@@ -1,13 +1,10 @@
-use Rattle.std.proofs.Common.{◌≡◌, ◌∙◌, ◌<◌, ◌∷◌, [], ℕ, List, Option, None, length, map, replicate, ap, sym, subst, arith}
+use Rattle.std.proofs.Common.{◌≡◌, ◌∙◌, ◌∷◌, [], ℕ, List, None, map, replicate, ap, sym, subst}
 use Rattle.std.proofs.lemmas.List.{length-map}
 use Rattle.std.proofs.lemmas.Result.{IfOk-weaker}
-use Rattle.dr_meaning.specs.Column.{Triplet}
-use Rattle.dr_meaning.specs.Record.{Value}
 use Rattle.dr_partials.specs.Putting.{Put}
 use Rattle.dr_levels.specs.Views.{triplets_view}
 use Rattle.dr_beside.specs.Neighbours.{column_at}
-use Rattle.dr_group.specs.Maps.{tuples_view}
-use Rattle.dr_columns.specs.Numbers.{tuples_at, HasPut}
+use Rattle.dr_columns.specs.Numbers.{HasPut}
 use Rattle.dr_columns.specs.OwnRows.{own_values, own_tuples, own_groups}
 use Rattle.dr_columns.specs.Places.{place_left}
 use Rattle.dr_columns.specs.RecordRows.{rows_of}

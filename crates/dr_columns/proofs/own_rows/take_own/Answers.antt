@@ -1,4 +1,4 @@
-use Rattle.std.proofs.Common.{◌≡◌, ◌∙◌, ◌<◌, ◌+◌, [], ◌∷◌, List, Option, Some, None, ap, length, map, subst, sym, get_or, drop}
+use Rattle.std.proofs.Common.{◌∙◌, ◌<◌, ◌+◌, [], ◌∷◌, List, Option, length, subst, sym, get_or, drop}
 use Rattle.std.specs.Prelude.{option_map}
 use Rattle.dr_levels.specs.Views.{lent_value}
 use Rattle.dr_meaning.specs.Record.{Value}
