@@ -130,11 +130,7 @@ pub record HoldsFrame (items : List MeantItem) (made : List Made) (f : ObjectFra
   pub built : HoldsBuilt made f.built
   pub values : HoldsValues items made f.values
 
--- what is said of the items with their readings, by whatever was made for them
-abbrev pub OverMade : List RecordItem → WithinValues → (List ReadItem → List Made → Type 0) → Type 0
-OverMade items v says = (ls : List Leaf) (rs : List ReadItem) (made : List Made) → AreReadItems ls items rs → HoldsValues (items_of rs) made v → says rs made
-
--- the same of an item that has this aggregate
+-- what is said of an item that has this aggregate, by whatever was made for it
 abbrev pub OverMadeFor : ℕ → Aggregate → WithinValues → (List Made → Type 0) → Type 0
 OverMadeFor item a v says = (items : List MeantItem) (made : List Made) → HoldsValues items made v → aggregate_at items item ≡ Some a → says made
 

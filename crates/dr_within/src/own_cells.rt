@@ -1,15 +1,16 @@
 //! The values of a level's own items, as cells of an object.
 
-ghost use Rattle.std.specs.Prelude.{◌≡◌, ◌++◌, ◌∷◌, [], Some, IfOk, OnOk};
+ghost use Rattle.std.specs.Prelude.{◌≡◌, ◌++◌, ◌∷◌, [], ℕ, List, Some, IfOk, OnOk};
 ghost use Rattle.dr_cells.specs.Results.{value_cell};
 ghost use Rattle.dr_cells.specs.Views.{cells_view};
 ghost use Rattle.dr_group.specs.Views.{accumulator_view};
-ghost use Rattle.dr_made_laws.specs.ObjectFlow.{gathered, values_for};
+ghost use Rattle.dr_meaning.specs.Path.{Leaf};
+ghost use Rattle.dr_made_laws.specs.ObjectFlow.{Made, ReadItem, gathered, items_of, values_for};
 ghost use Rattle.dr_partials.specs.Accumulators.{accumulated, result_of};
 ghost use Rattle.dr_plan.specs.Views.{fold_view};
 ghost use Rattle.dr_scalar.specs.OverSlots.{expr_over};
 ghost use Rattle.dr_scalar.specs.Slots.{slot_value};
-ghost use Rattle.dr_within.specs.ObjectFraming.{OverMade, accumulated_for, OverMadeFor};
+ghost use Rattle.dr_within.specs.ObjectFraming.{accumulated_for, AreReadItems, HoldsValues, OverMadeFor};
 ghost use Rattle.dr_within.specs.OwnCells.{item_cells, own_cells};
 
 use crate::within_values::WithinValues;
@@ -97,8 +98,9 @@ fn push_item(
     values: &WithinValues,
     cells: &mut Cells,
 ) -> Result<(), NoMemory>
-    ensures { OnOk result (OverMade items.now values.now (λ rs made.
-        cells_view cells.new ≡ cells_view cells.old ++ item_cells rs (slot_value slots.now) made item)) }
+    ensures { OnOk result ((ls : List Leaf) (rs : List ReadItem) (made : List Made) → AreReadItems ls items.now rs
+        → HoldsValues (items_of rs) made values.now → cells_view cells.new
+        ≡ cells_view cells.old ++ item_cells rs (slot_value slots.now) made item) }
 {
     let Some(found) = items.get(item as usize) else {
         return Ok(());
@@ -123,8 +125,9 @@ pub(crate) fn push_own(
     values: &WithinValues,
     cells: &mut Cells,
 ) -> Result<(), NoMemory>
-    ensures { OnOk result (OverMade items.now values.now (λ rs made.
-        cells_view cells.new ≡ cells_view cells.old ++ own_cells rs (slot_value slots.now) made places.now)) }
+    ensures { OnOk result ((ls : List Leaf) (rs : List ReadItem) (made : List Made) → AreReadItems ls items.now rs
+        → HoldsValues (items_of rs) made values.now → cells_view cells.new
+        ≡ cells_view cells.old ++ own_cells rs (slot_value slots.now) made places.now) }
 {
     'places: for place in places {
         push_item(alloc, items, *place, slots, values, cells)?;
