@@ -52,8 +52,9 @@ pub(crate) fn partial_of_opened<L: Link>(
         → IfErr result (IsFaultOf bytes (schema_view schema.now) (plan_leaves plan.now)) }
     ensures asked { (bytes : List ℕ) (f : Footer)
         → IsTold (L.shows link.old).held opened.now (plan_leaves plan.now) bytes → footer_of bytes ≡ Some f
-        → AsksOnly (is_read_inside (path_of opened.now) (flat_map (leaf_ranges f) (leaves_read f (plan_leaves plan.now))))
-        (L.shows link.old).asked (L.shows link.new).asked }
+        → AsksOnly (is_read_inside (path_of opened.now)
+        (flat_map (leaf_ranges f) (leaves_read f (plan_leaves plan.now)))) (L.shows link.old).asked
+        (L.shows link.new).asked }
     ensures paths { AsksOnly (is_for_path (path_of opened.now)) (L.shows link.old).asked (L.shows link.new).asked }
     ensures link { LeavesLinkCounted result (ServesOpened (L.shows link.old) opened.now) (L.shows link.old)
         (L.shows link.new) }

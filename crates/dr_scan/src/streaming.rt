@@ -56,8 +56,8 @@ fn make_at_hand(
         → IsStreamed s p rows given (meant_ends streams.now) ms walk.old (left_at streams.now left.now)
         → Makes s p ms making.old → HasLast (length (plan_leaves p)) ms before.now
         → length (behind.old).values.items ≡ length (plan_leaves p)
-        → EndsAtHand s p rows given (meant_ends streams.now) (left_at streams.now left.now) walk.new making.new behind.new
-        result }
+        → EndsAtHand s p rows given (meant_ends streams.now) (left_at streams.now left.now) walk.new making.new
+        behind.new result }
     ensures as_many { length (behind.new).values.items ≡ length (behind.old).values.items }
 {
     let mut held = rests_of(alloc, streams, left)?;
@@ -90,8 +90,9 @@ pub(crate) fn partial_of_rest<L: Link>(
         → IfErr result (IsFaultOf bytes (schema_view schema.now) (plan_leaves plan.now)) }
     ensures asked { (bytes : List ℕ) (f : Footer)
         → IsTold (L.shows link.old).held opened.now (plan_leaves plan.now) bytes → footer_of bytes ≡ Some f
-        → AsksOnly (is_read_inside (path_of opened.now) (flat_map (leaf_ranges f) (leaves_read f (plan_leaves plan.now))))
-        (L.shows link.old).asked (L.shows link.new).asked }
+        → AsksOnly (is_read_inside (path_of opened.now)
+        (flat_map (leaf_ranges f) (leaves_read f (plan_leaves plan.now)))) (L.shows link.old).asked
+        (L.shows link.new).asked }
     ensures paths { AsksOnly (is_for_path (path_of opened.now)) (L.shows link.old).asked (L.shows link.new).asked }
     ensures link { LeavesLinkCounted result (ServesOpened (L.shows link.old) opened.now) (L.shows link.old)
         (L.shows link.new) }
@@ -151,8 +152,9 @@ pub(crate) fn partial_of_streams<L: Link>(
         → IfErr result (IsFaultOf bytes (schema_view schema.now) (plan_leaves plan.now)) }
     ensures asked { (bytes : List ℕ) (f : Footer)
         → IsTold (L.shows link.old).held opened.now (plan_leaves plan.now) bytes → footer_of bytes ≡ Some f
-        → AsksOnly (is_read_inside (path_of opened.now) (flat_map (leaf_ranges f) (leaves_read f (plan_leaves plan.now))))
-        (L.shows link.old).asked (L.shows link.new).asked }
+        → AsksOnly (is_read_inside (path_of opened.now)
+        (flat_map (leaf_ranges f) (leaves_read f (plan_leaves plan.now)))) (L.shows link.old).asked
+        (L.shows link.new).asked }
     ensures paths { AsksOnly (is_for_path (path_of opened.now)) (L.shows link.old).asked (L.shows link.new).asked }
     ensures link { LeavesLinkCounted result (ServesOpened (L.shows link.old) opened.now) (L.shows link.old)
         (L.shows link.new) }
