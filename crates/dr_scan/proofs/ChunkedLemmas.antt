@@ -1,5 +1,5 @@
 -- The columns of a file's leaves side by side, chunk by chunk: the beginning, a batch more, the end, and what is no record's.
-use Rattle.std.proofs.Common.{◌≡◌, ◌≢◌, ◌<◌, ◌≤◌, ◌+◌, ℕ, zero, suc, List, [], ◌∷◌, ◌++◌, length, map, take, get_or, Bool, true, false, Option, Some, None, refl, sym, ap, ap₂, subst, ◌∙◌, true≢false, arith}
+use Rattle.std.proofs.Common.{◌≡◌, ◌≢◌, ◌<◌, ◌+◌, ℕ, zero, suc, List, [], ◌∷◌, ◌++◌, length, map, take, get_or, Bool, true, false, Option, Some, refl, sym, ap, ap₂, subst, ◌∙◌, true≢false, arith}
 use Rattle.std.specs.Prelude.{◌==◌, Result, Ok, Err, OnOk, slice_set}
 use Rattle.std.specs.List.{slice_get}
 use Rattle.std.proofs.Math.Seq.{map-set_same}
@@ -16,12 +16,12 @@ use Rattle.dr_formats.specs.Writing.{triplet_count}
 use Rattle.dr_memory.specs.declared.NoMemory.{NoMemory}
 use Rattle.dr_levels.specs.Views.{LeafForm, column_form, column_view}
 use Rattle.dr_outside.specs.Link.{Files}
-use Rattle.dr_moves.specs.Leading.{Left, columns_of}
+use Rattle.dr_moves.specs.Leading.{Left}
 use Rattle.dr_partials.specs.Partials.{partial_of}
 use Rattle.dr_group.specs.Partials.{IsPartialOf, partial_view}
 use Rattle.dr_file.specs.OpenedFiles.{rows_of}
 use Rattle.dr_file.specs.declared.opened.Opened.{Opened}
-use Rattle.dr_plan.specs.Planned.{IsOfSchema, plan_leaves, plan_view, planned_query}
+use Rattle.dr_plan.specs.Planned.{plan_leaves, plan_view, planned_query}
 use Rattle.dr_plan.specs.declared.plan.Plan.{Plan}
 use Rattle.dr_tablets.specs.Counting.{counted}
 use Rattle.dr_tablets.specs.FileRecords.{AreLeavesOf}

@@ -20,6 +20,8 @@ pub mod RestLemmas
 pub mod UnderwayLemmas
 -- chunk by chunk
 pub mod ChunkedLemmas
+-- what is at hand, handed over to the streams
+pub mod HandingLemmas
 -- the copies of one tablet
 pub mod TabletLemmas
 -- the truth of tablets

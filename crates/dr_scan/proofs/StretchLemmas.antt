@@ -1,19 +1,18 @@
 -- A stretch of a walk over batches, over whatever columns begin so.
-use Rattle.std.proofs.Common.{◌≡◌, ◌<◌, ◌≤◌, ◌+◌, ℕ, List, [], ◌∷◌, ◌++◌, length, map, drop, Bool, true, false, Option, Some, None, refl, sym, ap, subst, ◌∙◌, append-nil, true≢false, arith, Result, Ok, Err}
+use Rattle.std.proofs.Common.{◌≡◌, ◌<◌, ◌≤◌, ◌+◌, ℕ, List, [], ◌∷◌, ◌++◌, length, drop, Bool, true, false, None, refl, sym, ap, subst, ◌∙◌, append-nil, true≢false, arith, Result, Ok, Err}
 use Rattle.std.specs.Prelude.{◌==◌, if◌then◌else◌}
 use Rattle.std.proofs.lemmas.Bool.{eqb-true, ne_eqb}
 use Rattle.std.proofs.lemmas.Bool.Decides.{nat_tests}
 use Rattle.std.proofs.lemmas.List.{length-map, drop-drop}
 use Rattle.dr_meaning.specs.Schema.{Schema, depth, greatest_depth}
-use Rattle.dr_meaning.specs.Path.{Step, Leaf, paths_of_leaves}
+use Rattle.dr_meaning.specs.Path.{Leaf, paths_of_leaves}
 use Rattle.dr_meaning.specs.Column.{Triplet, triplet}
 use Rattle.dr_meaning.specs.Walk.{Move}
 use Rattle.dr_levels.specs.Views.{move_view}
 use Rattle.dr_levels.specs.declared.moves.Move.{Move as CodeMove}
-use Rattle.dr_moves.specs.Leading.{Left, columns_of}
+use Rattle.dr_moves.specs.Leading.{Left}
 use Rattle.dr_plan.specs.Planned.{plan_leaves}
 use Rattle.dr_plan.specs.declared.plan.Plan.{Plan}
-use Rattle.dr_walk.specs.Walking.{leaf_of}
 use Rattle.dr_walk.specs.Batches.{IsOver, EndsWith, Shrinks, is_last, GoesOver, NestsOver}
 use Rattle.dr_walk.specs.declared.batches.Turned.{Turned}
 use Rattle.dr_walk.specs.declared.fault.AssembleFault.{AssembleFault}
@@ -21,7 +20,7 @@ use Rattle.dr_walk.specs.declared.level_walk.LevelWalk.{LevelWalk}
 use Rattle.dr_within.specs.Rows.{HasRead, IsOfLeaf}
 use Rattle.dr_within.specs.declared.row.Row.{Row}
 use Rattle.dr_scan.specs.Makings.{Makes}
-use Rattle.dr_scan.specs.Streamed.{Extends, IsStreamed, IsScanned, IsWholeScan, WantsMore, NoneBegins, EndsStretch}
+use Rattle.dr_scan.specs.Streamed.{Extends, IsStreamed, IsScanned, EndsStretch}
 use Rattle.dr_scan.specs.declared.making.Making.{Making}
 use Rattle.dr_scan.specs.declared.stretch.Stretch.{Stretch}
 use Rattle.dr_scan.proofs.LeafLemmas.{leaf_within}

@@ -28,10 +28,11 @@ ghost use Rattle.dr_walk.specs.Batches.{is_last};
 ghost use Rattle.dr_scan.specs.Chunked.{batch_forms, hand_forms, AreOfStreams};
 ghost use Rattle.dr_scan.specs.Streamed.{batch_at, ends_of, IsTold, AreLeafStreams, AreRefilled, IsOfOpened};
 
+use crate::handing::rest_of;
 use crate::leaf_stream::LeafStream;
 use crate::leaf_streams::leaf_streams;
 use crate::opened::Made;
-use crate::streaming::partial_of_streams;
+use crate::streaming::partial_of_rest;
 use dr_agreement::AtHand;
 use dr_columns::{Chunks, ColumnScan, Step};
 use dr_file::{FileFault, Opened};
@@ -157,8 +158,11 @@ pub(crate) fn partial_of_chunks<L: Link>(
                 read.add(count as u64);
                 add_batch(&streams, leaf, &mut chunks)?;
             }
-            // Its records are read anew, by the walk that holds no record.
-            Step::Long => return partial_of_streams(alloc, schema, plan, link, opened),
+            // The walk goes on, which holds no record.
+            Step::Long => {
+                let rest = rest_of(alloc, streams, chunks, read)?;
+                return partial_of_rest(alloc, schema, plan, link, opened, rest);
+            }
             Step::Ended => {
                 return Ok(Made {
                     partial: chunks.close(),

@@ -3,6 +3,7 @@
 #![tactic(auto)]
 
 mod chunks;
+mod handing;
 pub mod laws;
 mod leaf_stream;
 mod leaf_streams;

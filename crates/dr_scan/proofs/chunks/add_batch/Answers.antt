@@ -1,6 +1,6 @@
-use Rattle.std.proofs.Common.{◌≡◌, ◌∙◌, ◌<◌, List, length, map, get_or, ap, sym, subst, arith}
+use Rattle.std.proofs.Common.{◌∙◌, List, get_or, ap, sym, subst, arith}
 use Rattle.dr_meaning.specs.Column.{Triplet}
-use Rattle.dr_levels.specs.Views.{LeafForm, triplets_form, triplets_view}
+use Rattle.dr_levels.specs.Views.{LeafForm, triplets_form}
 use Rattle.dr_agreement.specs.Behind.{IsMore}
 use Rattle.dr_scan.proofs.ChunkedLemmas.{batch_here, form_here, leaves_count, of_streams_now}
 use Rattle.dr_scan.proofs.chunks.add_batch.Goals as goal

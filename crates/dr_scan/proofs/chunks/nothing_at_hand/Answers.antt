@@ -1,8 +1,7 @@
-use Rattle.std.proofs.Common.{◌≡◌, ◌∙◌, List, map, ap, ap₂, sym, subst}
+use Rattle.std.proofs.Common.{◌∙◌, List, map, ap, ap₂}
 use Rattle.dr_levels.specs.Views.{form}
 use Rattle.dr_agreement.specs.AtHand as hand
 use Rattle.dr_agreement.specs.declared.at_hand.AtHand.{AtHand}
-use Rattle.dr_scan.specs.Chunked.{batch_forms}
 use Rattle.dr_scan.proofs.ChunkedLemmas.{hand_pushed, ends_pushed, forms_pushed}
 use Rattle.dr_scan.proofs.chunks.nothing_at_hand.Goals as goal
 

@@ -1,8 +1,7 @@
-use Rattle.std.proofs.Common.{◌≡◌, ◌≢◌, ◌<◌, ◌∙◌, ℕ, List, [], length, map, true, refl, sym, ap, subst, arith}
-use Rattle.std.specs.Prelude.{Option, Ok, Err, IsTrue}
+use Rattle.std.proofs.Common.{◌≡◌, ◌≢◌, ◌∙◌, ℕ, List, [], length, true, refl, sym, ap, subst, arith}
+use Rattle.std.specs.Prelude.{Option, Ok, IsTrue}
 use Rattle.std.specs.List.{flat_map}
 use Rattle.std.proofs.lemmas.List.{length-map}
-use Rattle.dr_meaning.specs.Path.{Leaf}
 use Rattle.dr_formats.specs.File.{leaves_read}
 use Rattle.dr_formats.specs.Opening.{leaf_ranges}
 use Rattle.dr_nested.specs.SchemaView.{schema_view}
@@ -14,7 +13,6 @@ use Rattle.dr_chunk.proofs.AskLemmas.{asks_then}
 use Rattle.dr_agreement.specs.AtHand as hand
 use Rattle.dr_agreement.specs.Behind.{IsMore}
 use Rattle.dr_columns.specs.Chunks.{nothing, HasTakenChunks, ComesTo}
-use Rattle.dr_columns.specs.declared.chunks.Step.{Step}
 use Rattle.dr_file.specs.Asking.{is_for_path}
 use Rattle.dr_file.specs.Leaving.{ServesOpened}
 use Rattle.dr_file.specs.OpenedFiles.{path_of, rows_of}
@@ -34,6 +32,8 @@ use Rattle.dr_scan.specs.declared.leaf_stream.LeafStream.{LeafStream}
 use Rattle.dr_scan.proofs.ScanLemmas.{plan_has_leaves}
 use Rattle.dr_scan.proofs.LeafLemmas.{plan_leaves_stand}
 use Rattle.dr_scan.proofs.FileLemmas.{walk_fault}
+use Rattle.dr_scan.specs.Rests.{IsRestOf}
+use Rattle.dr_scan.proofs.RestLemmas.{counted_given}
 use Rattle.dr_scan.proofs.Tabulated.{tabulated_none}
 use Rattle.dr_scan.proofs.UnderwayLemmas.{so_far, still_serves, still_told, still_streams}
 use Rattle.dr_scan.proofs.ChunkedLemmas.{IsChunked, none_ends, more_given, reads_on, chunked_bad, all_chunks, still_of_streams, hands_count, chunked_seen}
@@ -190,10 +190,27 @@ returns-in_err-add_batch-in-Wants-clause-link g c =
     (then_leaves (tt {0}) (Ok count) (ServesOpened before o) (ServesOpened between o) before between after (so_far (tt {0}) (ServesOpened before o) before between inv.same inv.calm inv.stays_steady)
     (λ bytes k. still_serves o before between bytes inv.same inv.stays_steady k) (c.in_ok-count-in-Wants.ensures.link o F at.given streams)))
 
+pub rest_of-requires : goal.rest_of-requires
+rest_of-requires g c = c.step.ensures.forms ∙ c.steps.invariant.at.of_streams.forms
+
+pub partial_of_rest-requires-clause-rest : goal.partial_of_rest-requires-clause-rest
+partial_of_rest-requires-clause-rest g c =
+    let s = schema_view c.args.schema.now in
+    let p = c.args.plan.now in
+    let o = c.args.opened.now in
+    let held = (g.L.Link.shows c.args.link.now).held in
+    let inv = c.steps.invariant in
+    let at = inv.at in
+    let xs = c.steps.streams.items in
+    let of_streams = still_of_streams xs c.steps.chunks c.step.new.self c.step.ensures.forms c.step.ensures.ends at.of_streams in
+    let t = subst (ComesTo s p (rows_of o) at.given c.step.new.self) c.in-Long.is (c.in_ok-step.ensures.step s p (rows_of o) at.given at.records at.taken) in
+    let rest = c.in_ok-rest-in-Long.ensures s p held o at.given t.0 at.streams t.1 of_streams (counted_given (length (plan_leaves p)) at.given c.steps.read at.count) t.2 in
+    subst (λ (h : Option Files). IsRestOf s p h o c.in_ok-rest-in-Long.rest) (sym inv.same) rest
+
 pub returns-in-Long-clause-cause : goal.returns-in-Long-clause-cause
 returns-in-Long-clause-cause g c = λ bytes told.
     let held = (g.L.Link.shows c.args.link.now).held in
-    c.partial_of_streams.ensures.cause bytes (still_told held (g.L.Link.shows c.steps.link).held c.args.opened.now (plan_leaves c.args.plan.now) bytes c.steps.invariant.same told)
+    c.partial_of_rest.ensures.cause bytes (still_told held (g.L.Link.shows c.steps.link).held c.args.opened.now (plan_leaves c.args.plan.now) bytes c.steps.invariant.same told)
 
 pub returns-in-Long-clause-asked : goal.returns-in-Long-clause-asked
 returns-in-Long-clause-asked g c = λ bytes f told e.
@@ -201,10 +218,10 @@ returns-in-Long-clause-asked g c = λ bytes f told e.
     let o = c.args.opened.now in
     let held = (g.L.Link.shows c.args.link.now).held in
     let inv = c.steps.invariant in
-    asks_then (is_read_inside (path_of o) (flat_map (leaf_ranges f) (leaves_read f F))) _ _ _ (inv.asked bytes f told e) (c.partial_of_streams.ensures.asked bytes f (still_told held (g.L.Link.shows c.steps.link).held o F bytes inv.same told) e)
+    asks_then (is_read_inside (path_of o) (flat_map (leaf_ranges f) (leaves_read f F))) _ _ _ (inv.asked bytes f told e) (c.partial_of_rest.ensures.asked bytes f (still_told held (g.L.Link.shows c.steps.link).held o F bytes inv.same told) e)
 
 pub returns-in-Long-clause-paths : goal.returns-in-Long-clause-paths
-returns-in-Long-clause-paths g c = asks_then (is_for_path (path_of c.args.opened.now)) _ _ _ c.steps.invariant.paths c.partial_of_streams.ensures.paths
+returns-in-Long-clause-paths g c = asks_then (is_for_path (path_of c.args.opened.now)) _ _ _ c.steps.invariant.paths c.partial_of_rest.ensures.paths
 
 pub returns-in-Long-clause-link : goal.returns-in-Long-clause-link
 returns-in-Long-clause-link g c =
@@ -213,7 +230,7 @@ returns-in-Long-clause-link g c =
     let before = g.L.Link.shows c.args.link.now in
     let between = g.L.Link.shows c.steps.link in
     then_leaves (tt {0}) _ (ServesOpened before o) (ServesOpened between o) before between _ (so_far (tt {0}) (ServesOpened before o) before between inv.same inv.calm inv.stays_steady) (λ bytes k. still_serves o before between bytes inv.same inv.stays_steady k)
-    c.partial_of_streams.ensures.link
+    c.partial_of_rest.ensures.link
 
 pub returns-in-Ended-clause-partial : goal.returns-in-Ended-clause-partial
 returns-in-Ended-clause-partial g c =

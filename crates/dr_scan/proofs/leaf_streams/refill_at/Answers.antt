@@ -1,6 +1,6 @@
 use Rattle.std.proofs.Common.{◌≡◌, ◌<◌, ℕ, List, length, refl, subst, arith}
 use Rattle.std.specs.Prelude.{Option, Some, Ok}
-use Rattle.std.specs.List.{slice_get, flat_map}
+use Rattle.std.specs.List.{slice_get}
 use Rattle.std.proofs.lemmas.Option.{slice_get_read}
 use Rattle.dr_meaning.specs.Path.{Leaf}
 use Rattle.dr_outside.specs.Link.{Files}

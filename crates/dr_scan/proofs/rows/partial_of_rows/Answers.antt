@@ -1,4 +1,4 @@
-use Rattle.std.proofs.Common.{◌≡◌, ◌∙◌, ℕ, List, [], None, length, true, false, sym, ap, ap₂, rules, arith}
+use Rattle.std.proofs.Common.{◌≡◌, ◌∙◌, List, [], None, length, true, false, sym, ap, ap₂, rules, arith}
 use Rattle.std.proofs.lemmas.Bool.Decides.{nat_tests}
 use Rattle.std.specs.List.{list_all}
 use Rattle.dr_moves.specs.Context.{Context}

@@ -1,5 +1,4 @@
-use Rattle.std.proofs.Common.{ℕ, List, map, length, subst, sym, ap, ◌∙◌}
-use Rattle.dr_formats.specs.Writing.{triplet_count}
+use Rattle.std.proofs.Common.{List, map, length, subst, ap, ◌∙◌}
 use Rattle.dr_nested.specs.SchemaView.{schema_view}
 use Rattle.dr_nested.specs.PathView.{path_view}
 use Rattle.dr_nested.specs.declared.path.Path.{Path}

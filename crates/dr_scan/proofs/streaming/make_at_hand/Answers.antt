@@ -1,4 +1,4 @@
-use Rattle.std.proofs.Common.{◌≡◌, ◌∙◌, ℕ, List, length, map, drop, get_or, sym, ap, subst, arith}
+use Rattle.std.proofs.Common.{◌≡◌, ◌∙◌, ℕ, List, length, drop, get_or, ap, subst, arith}
 use Rattle.std.specs.Prelude.{Bool, Ok, Err}
 use Rattle.std.proofs.lemmas.List.{length-map}
 use Rattle.dr_levels.specs.Views.{triplets_view}

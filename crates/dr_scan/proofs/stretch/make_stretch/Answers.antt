@@ -9,7 +9,6 @@ use Rattle.dr_plan.specs.Planned.{plan_leaves}
 use Rattle.dr_plan.specs.declared.plan.Plan.{Plan}
 use Rattle.dr_walk.specs.Checking.{rest_at}
 use Rattle.dr_walk.specs.Batches.{NestsOver}
-use Rattle.dr_walk.specs.declared.batches.Turned.{Turned}
 use Rattle.dr_walk.specs.declared.fault.AssembleFault.{AssembleFault}
 use Rattle.dr_walk.specs.declared.level_walk.LevelWalk.{LevelWalk}
 use Rattle.dr_within.specs.declared.row.Row.{Row}

@@ -1,4 +1,4 @@
-use Rattle.std.proofs.Common.{◌≡◌, ◌∙◌, List, ℕ, length, refl, sym, ap, subst}
+use Rattle.std.proofs.Common.{List, ℕ, length, refl, sym, ap, subst}
 use Rattle.dr_meaning.specs.Column.{Triplet}
 use Rattle.dr_formats.specs.Opening.{leaf_cause, leaf_ranges}
 use Rattle.dr_formats.specs.File.{leaves_read}
