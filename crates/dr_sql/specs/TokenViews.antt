@@ -28,6 +28,11 @@ word_view Word.Count = language.count_word
 word_view Word.Sum = language.sum_word
 word_view Word.Min = language.min_word
 word_view Word.Max = language.max_word
+word_view Word.Distinct = language.distinct_word
+word_view Word.Order = language.order_word
+word_view Word.Limit = language.limit_word
+word_view Word.Asc = language.asc_word
+word_view Word.Desc = language.desc_word
 
 abbrev pub sign_view : Sign → language.Sign
 sign_view Sign.Comma = language.comma

@@ -24,6 +24,11 @@ pub enum Word {
     Sum,
     Min,
     Max,
+    Distinct,
+    Order,
+    Limit,
+    Asc,
+    Desc,
 }
 
 /// The signs `, ( ) . * + - = <> < <= > >= ;`.

@@ -64,6 +64,16 @@ pub fn word_of(name: &str) -> Option<Word>
         Some(Word::Min)
     } else if spells(name, "MAX") {
         Some(Word::Max)
+    } else if spells(name, "DISTINCT") {
+        Some(Word::Distinct)
+    } else if spells(name, "ORDER") {
+        Some(Word::Order)
+    } else if spells(name, "LIMIT") {
+        Some(Word::Limit)
+    } else if spells(name, "ASC") {
+        Some(Word::Asc)
+    } else if spells(name, "DESC") {
+        Some(Word::Desc)
     } else {
         None
     }
