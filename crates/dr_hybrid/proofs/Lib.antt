@@ -14,3 +14,5 @@ pub mod FittingLemmas
 pub mod ReaderLemmas
 -- how many values at the front are equal, piece by piece
 pub mod FrontLemmas
+-- runs of one group, which follow one another
+pub mod GroupLemmas

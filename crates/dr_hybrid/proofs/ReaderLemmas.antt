@@ -25,11 +25,11 @@ use Rattle.dr_bytes.specs.Cutting.{whole, left}
 use Rattle.dr_bytes.proofs.CutLemmas.{left_at_place}
 use Rattle.dr_bytes.proofs.BitLemmas.{AreBytes, number_behind, number_split, length_unpacked, unpacked_more}
 
-map_map : (front vs : List ℕ) (o : Option (List ℕ)) → option_map (λ more. front ++ more) (option_map (λ more. vs ++ more) o) ≡ option_map (λ more. (front ++ vs) ++ more) o
+pub map_map : (front vs : List ℕ) (o : Option (List ℕ)) → option_map (λ more. front ++ more) (option_map (λ more. vs ++ more) o) ≡ option_map (λ more. (front ++ vs) ++ more) o
 map_map front vs None = refl
 map_map front vs (Some more) = ap Some (sym (append_assoc front vs more))
 
-map_nil : (o : Option (List ℕ)) → option_map (λ more. [] ++ more) o ≡ o
+pub map_nil : (o : Option (List ℕ)) → option_map (λ more. [] ++ more) o ≡ o
 map_nil None = refl
 map_nil (Some vs) = refl
 

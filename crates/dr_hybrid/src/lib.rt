@@ -9,6 +9,7 @@ mod packable;
 mod reading;
 mod run_reader;
 mod runs;
+mod single_groups;
 mod unpacking;
 mod unread;
 mod words;

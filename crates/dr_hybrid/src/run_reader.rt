@@ -6,6 +6,7 @@ ghost use Rattle.dr_hybrid.specs.declared.unread.Unread.{Unread};
 
 use crate::packable::Packable;
 use crate::runs::Short;
+use crate::single_groups::{GREATEST_SINGLE, unpack_single_groups};
 use crate::unpacking::unpack;
 use crate::unread::{Unread, begin};
 use crate::words::packed_length;
@@ -22,7 +23,7 @@ pub struct RunReader {
 }
 
 impl RunReader {
-    ghost use Rattle.std.specs.Prelude.{◌<◌, ◌+◌, ◌++◌, ℕ, List, length, Some, None, option_map, OnOk, OnErr};
+    ghost use Rattle.std.specs.Prelude.{◌<◌, ◌+◌, ◌++◌, ℕ, List, length, take, Some, None, option_map, OnOk, OnErr};
     ghost use Rattle.dr_formats.specs.Hybrid.{hybrid};
     ghost use Rattle.dr_hybrid.specs.Unread.{HasMore, IsOver, IsOpen};
     ghost use Rattle.dr_hybrid.specs.Reader.{ahead, width_at, bytes_left};
@@ -81,7 +82,10 @@ impl RunReader {
         'pieces: while done < out.len() {
             let count = self.unread.at_once(out.len() - done);
             if count == 0 {
-                self.go_on(bytes)?;
+                done += self.take_single_groups(bytes, &mut out[done..]);
+                if done < out.len() {
+                    self.go_on(bytes)?;
+                }
             } else {
                 self.take(bytes, &mut out[done..done + count])?;
                 done += count;
@@ -96,6 +100,29 @@ impl RunReader {
         ensures { result.now ≡ bytes_left self.now bytes.now }
     {
         &bytes[self.place.min(bytes.len())..]
+    }
+
+    /// Reads the runs of one group behind a run that is over, as many as follow one another and there is room for.
+    /// Answers how many values they have.
+    #[inline(always)]
+    fn take_single_groups<T: Packable>(&mut self, bytes: &[u8], out: &mut [T]) -> usize
+        requires held { width_at self.old ≤ T.greatest_width }
+        requires over { IsOver (self.old).unread }
+        requires open { IsOpen (self.old).unread }
+        ensures room { result ≤ length out.old }
+        ensures read { (n : ℕ) → ahead self.old (result + n) bytes.now
+            ≡ option_map (λ more. take result (T.numbers out.new) ++ more) (ahead self.new n bytes.now) }
+        ensures unread { (self.new).unread ≡ (self.old).unread }
+        ensures closer { length (bytes_left self.new bytes.now) ≤ length (bytes_left self.old bytes.now) }
+        ensures width { width_at self.new ≡ width_at self.old }
+    {
+        if self.width > GREATEST_SINGLE {
+            return 0;
+        }
+        let mask = (1u64 << self.width) - 1;
+        let groups = unpack_single_groups(self.rest(bytes), self.width, mask, out);
+        self.place += groups * (self.width as usize + 1);
+        8 * groups
     }
 
     /// Goes on to the next run, behind one that is over.
