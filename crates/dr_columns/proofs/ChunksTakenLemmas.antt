@@ -26,14 +26,13 @@ use Rattle.dr_partials.specs.Together.{PutTheSame}
 use Rattle.dr_partials.proofs.GroupPutLemmas.{source_groups_first}
 use Rattle.dr_partials.proofs.TogetherLemmas.{both_same, crossed}
 use Rattle.dr_beside.specs.Chunks.{HasColumns}
-use Rattle.dr_columns.specs.RecordRows.{AreBeside}
+use Rattle.dr_rows_beside.specs.RecordRows.{AreBeside}
 use Rattle.dr_columns.specs.RowPuts.{paths_at}
-use Rattle.dr_columns.specs.Sources.{all_beside, AreOnItsChain}
-use Rattle.dr_columns.specs.TestRows.{AreReadBeside}
+use Rattle.dr_rows_beside.specs.Sources.{all_beside, AreOnItsChain, AreReadBeside}
 use Rattle.dr_columns.specs.Takings.{Take, same_leaf, takings_at, read_of, is_nothing, Fires, fires_at, first_numbers, CanFire, CanFireEach, source_puts, fired_puts}
 use Rattle.dr_agreement.proofs.OutlinedLemmas.{same_at}
-use Rattle.dr_columns.proofs.RecordRowLemmas.{rows_of_records}
-use Rattle.dr_columns.proofs.SourceLemmas.{sources_are_beside}
+use Rattle.dr_rows_beside.proofs.RecordRowLemmas.{rows_of_records}
+use Rattle.dr_rows_beside.proofs.SourceLemmas.{sources_are_beside}
 use Rattle.dr_columns.proofs.SourceReadLemmas.{AreInOrder, leaves_in_order, path_there, IsLastOf, last_of, reading_of, TakenAt, readings_at_leaf}
 use Rattle.dr_columns.proofs.SourceMeansLemmas.{AreGroupsOf, IsTakenHere, all_taken_here, read_on_chain, keys_on_chain, source_means}
 

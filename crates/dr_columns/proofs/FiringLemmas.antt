@@ -11,7 +11,7 @@ use Rattle.dr_plan.specs.declared.aggregate.Fold.{Fold}
 use Rattle.dr_plan.specs.declared.expression.Expr.{Expr}
 use Rattle.dr_scalar.specs.Leaves.{greater, greatest, expr_leaves}
 use Rattle.dr_scalar.proofs.LastLemmas.{greatest_append}
-use Rattle.dr_columns.specs.Sources.{is_numbered}
+use Rattle.dr_rows_beside.specs.Sources.{is_numbered}
 use Rattle.dr_columns.specs.declared.taking.Taking.{Taking}
 use Rattle.dr_columns.specs.Takings.{Take, taking_view, takings_view, aggregate_leaves, are_numbered, taken_at, same_leaf, one_taking, takings_at, read_of, fires_at, first_numbers}
 

@@ -21,15 +21,15 @@ use Rattle.dr_group.specs.ManyTaken.{many_puts}
 use Rattle.dr_group.specs.Maps.{groups_view, gatherings_view, tuples_view}
 use Rattle.dr_group.specs.declared.group_map.GroupMap.{GroupMap}
 use Rattle.dr_beside.specs.Neighbours.{column_at}
-use Rattle.dr_columns.specs.declared.source.Beside.{Beside}
-use Rattle.dr_columns.specs.ExprRows.{value_in}
+use Rattle.dr_rows_beside.specs.declared.source.Beside.{Beside}
+use Rattle.dr_rows_beside.specs.ExprRows.{value_in}
 use Rattle.dr_columns.specs.Own.{HasOwn}
-use Rattle.dr_columns.specs.RecordRows.{rows_of}
-use Rattle.dr_columns.specs.Rows.{Row, Follower, run, in_slot, source_view}
+use Rattle.dr_rows_beside.specs.RecordRows.{rows_of}
+use Rattle.dr_rows_beside.specs.Rows.{Row, Follower, run, in_slot, source_view}
 use Rattle.dr_columns.specs.RowPuts.{groups_in, puts_in}
 use Rattle.dr_columns.specs.Numbers.{HasPut}
 use Rattle.dr_columns.specs.Takings.{Take, CanFire, taking_puts, puts_by}
-use Rattle.dr_columns.proofs.RunLemmas.{own_slots}
+use Rattle.dr_rows_beside.proofs.RunLemmas.{own_slots}
 
 -- ---- a group is put once
 

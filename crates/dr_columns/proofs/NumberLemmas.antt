@@ -18,7 +18,7 @@ use Rattle.dr_group.specs.declared.group.Group as held
 use Rattle.dr_group.specs.Maps.{groups_view, gatherings_view, tuples_view}
 use Rattle.dr_group.specs.Distinct.{tuples_of}
 use Rattle.dr_group.specs.declared.group_map.GroupMap.{GroupMap}
-use Rattle.dr_columns.specs.Rows.{Row, NextRow}
+use Rattle.dr_rows_beside.specs.Rows.{Row, NextRow}
 use Rattle.dr_columns.specs.RowPuts.{keys_in, puts_in}
 use Rattle.dr_columns.specs.Numbers.{tuples_at, are_among, Stay, put_at, row_puts, value_puts, LeavesToPut, HasPut}
 

@@ -8,9 +8,9 @@ use Rattle.dr_levels.specs.Lent.{present_values}
 use Rattle.dr_plan.specs.declared.expression.Expr.{Expr}
 use Rattle.dr_scalar.specs.OverSlots.{expr_over}
 use Rattle.dr_scalar.specs.Slots.{of_type}
-use Rattle.dr_columns.specs.ExprRows.{value_in}
+use Rattle.dr_rows_beside.specs.ExprRows.{value_in}
 use Rattle.dr_columns.specs.Own.{HasOwn}
-use Rattle.dr_columns.specs.Rows.{Row, slot_at, in_slot}
+use Rattle.dr_rows_beside.specs.Rows.{Row, slot_at, in_slot}
 
 -- the values of triplets, and NULLs
 abbrev pub triplet_values : List Triplet → List (Option Value)

@@ -7,16 +7,16 @@ use Rattle.dr_partials.specs.Putting.{Put}
 use Rattle.dr_group.specs.Groups.{put_of}
 use Rattle.dr_columns.specs.Numbers.{value_puts}
 use Rattle.dr_columns.specs.OwnRows.{own_values, own_tuples, own_groups}
-use Rattle.dr_columns.specs.Places.{LevelsAt}
+use Rattle.dr_rows_beside.specs.Places.{LevelsAt}
 use Rattle.dr_columns.specs.RowPuts.{keys_in, groups_in}
 use Rattle.dr_beside.specs.Neighbours.{column_at}
 use Rattle.dr_plan.specs.declared.expression.Expr.{Expr}
-use Rattle.dr_columns.specs.declared.source.Beside.{Beside}
-use Rattle.dr_columns.specs.ExprRows.{value_in}
+use Rattle.dr_rows_beside.specs.declared.source.Beside.{Beside}
+use Rattle.dr_rows_beside.specs.ExprRows.{value_in}
 use Rattle.dr_columns.specs.Own.{HasOwn}
-use Rattle.dr_columns.specs.RecordRows.{rows_of}
-use Rattle.dr_columns.specs.Rows.{Row, slot_at, in_slot, is_apart, source_view}
-use Rattle.dr_columns.proofs.RunLemmas.{own_slots}
+use Rattle.dr_rows_beside.specs.RecordRows.{rows_of}
+use Rattle.dr_rows_beside.specs.Rows.{Row, slot_at, in_slot, is_apart, source_view}
+use Rattle.dr_rows_beside.proofs.RunLemmas.{own_slots}
 use Rattle.dr_columns.proofs.NumberLemmas.{no_values}
 
 pub next_groups : (before after : List Triplet) (t : Triplet) (v : Option Value) → before ≡ t ∷ after → t.value ≡ v → own_groups before ≡ put_of (v ∷ []) None ∷ own_groups after

@@ -51,7 +51,7 @@ use Rattle.dr_beside.specs.Chunks.{HasColumns}
 use Rattle.dr_columns.specs.RowPuts.{paths_at}
 use Rattle.dr_columns.specs.Takings.{Take, aggregate_leaves, are_numbered, taken_at, same_leaf, takings_at, fires_at, fires_of, CanFireEach, first_numbers, fired_puts, record_puts, end_puts}
 use Rattle.dr_columns.specs.ChunksTaken.{IsOfAllGroups, planned_puts, ChunksArePut}
-use Rattle.dr_columns.proofs.MakingLemmas.{greatest_there}
+use Rattle.dr_rows_beside.proofs.SourceLemmas.{greatest_there}
 use Rattle.dr_columns.proofs.PlanAggregates.{GroupsFit, groups_fit, plan_aggregates}
 use Rattle.dr_columns.proofs.SourceReadLemmas.{reading_by, reading_of, or_end, TakenAt, readings_at_end}
 use Rattle.dr_columns.proofs.SourceMeansLemmas.{AreGroupsOf, typed_rows}

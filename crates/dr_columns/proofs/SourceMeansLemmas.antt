@@ -30,16 +30,15 @@ use Rattle.dr_condition.proofs.ReadRows.{same_paths, rows_typed, AreLeavesOf}
 use Rattle.std.proofs.lemmas.List.{map-append}
 use Rattle.dr_partials.specs.Readings.{puts_of_reading, puts_of_groups}
 use Rattle.dr_beside.specs.Chunks.{HasColumns}
-use Rattle.dr_columns.specs.declared.source.Beside.{Beside}
-use Rattle.dr_columns.specs.Rows.{Row}
-use Rattle.dr_columns.specs.RecordRows.{AreBeside, rows_of}
-use Rattle.dr_columns.specs.TestRows.{AreReadBeside}
+use Rattle.dr_rows_beside.specs.declared.source.Beside.{Beside}
+use Rattle.dr_rows_beside.specs.Rows.{Row}
+use Rattle.dr_rows_beside.specs.RecordRows.{AreBeside, rows_of}
+use Rattle.dr_rows_beside.specs.Sources.{AreReadBeside, all_beside, AreOnItsChain}
 use Rattle.dr_columns.specs.RowPuts.{paths_at, groups_in}
-use Rattle.dr_columns.specs.Sources.{all_beside, AreOnItsChain}
 use Rattle.dr_columns.specs.Takings.{Take, aggregate_leaves, taken_at, same_leaf, takings_at, read_of, fires_at, taking_puts, source_puts}
 use Rattle.dr_agreement.proofs.OutlinedLemmas.{same_at}
 use Rattle.dr_columns.proofs.RowPutLemmas.{puts_of_source}
-use Rattle.dr_columns.proofs.SourceLemmas.{sources_are_beside}
+use Rattle.dr_rows_beside.proofs.SourceLemmas.{sources_are_beside}
 use Rattle.dr_columns.proofs.SourceReadLemmas.{AreInOrder, IsLastOf, last_of, reading_of, reading_by, chain_read}
 
 -- ---- rows of records are typed

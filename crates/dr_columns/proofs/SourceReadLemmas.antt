@@ -24,9 +24,9 @@ use Rattle.dr_condition.proofs.GreatestLemmas.{same_greatest}
 use Rattle.dr_condition.proofs.LeavesBelow.{are_below}
 use Rattle.dr_condition.proofs.ReadRows.{same_paths, below_paths, AreLeavesOf}
 use Rattle.dr_partials.specs.Readings.{Reading, readings_of}
-use Rattle.dr_columns.proofs.SourceLemmas.{less}
+use Rattle.dr_rows_beside.proofs.SourceLemmas.{less}
 use Rattle.dr_columns.specs.RowPuts.{paths_at}
-use Rattle.dr_columns.specs.Sources.{AreOnItsChain}
+use Rattle.dr_rows_beside.specs.Sources.{AreOnItsChain}
 use Rattle.dr_columns.specs.Takings.{Take, aggregate_leaves, taken_at, same_leaf, takings_at}
 
 pub record AreInOrder (fs : Fields) (F : List (List Step)) : Type 0 where

@@ -11,14 +11,14 @@ use Rattle.dr_scalar.specs.OverSlots.{expr_over}
 use Rattle.dr_scalar.specs.Slots.{slot_value}
 use Rattle.dr_group.specs.Groups.{put_of}
 use Rattle.dr_beside.specs.Neighbours.{column_at}
-use Rattle.dr_columns.specs.declared.source.Beside.{Beside}
+use Rattle.dr_rows_beside.specs.declared.source.Beside.{Beside}
 use Rattle.dr_columns.specs.declared.taking.Taking.{Taking}
 use Rattle.dr_columns.specs.declared.firing.Fired.{Fired}
-use Rattle.dr_columns.specs.Rows.{Row, source_view, is_fed, is_apart}
-use Rattle.dr_columns.specs.RecordRows.{rows_of}
-use Rattle.dr_columns.specs.ExprRows.{value_in}
+use Rattle.dr_rows_beside.specs.Rows.{Row, source_view, is_fed, is_apart}
+use Rattle.dr_rows_beside.specs.RecordRows.{rows_of}
+use Rattle.dr_rows_beside.specs.ExprRows.{value_in}
 use Rattle.dr_columns.specs.RowPuts.{groups_in, puts_in}
-use Rattle.dr_columns.specs.Sources.{all_beside, is_numbered}
+use Rattle.dr_rows_beside.specs.Sources.{all_beside, is_numbered}
 
 -- ---- what is taken
 

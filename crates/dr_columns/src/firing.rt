@@ -4,14 +4,13 @@ ghost use Rattle.std.specs.Prelude.{◌≡◌, ◌++◌, ◌<◌, [], length, ma
 ghost use Rattle.std.specs.List.{list_all, flat_map};
 ghost use Rattle.dr_nested.specs.PathView.{paths_view};
 ghost use Rattle.dr_scalar.specs.Leaves.{greater, greatest};
-ghost use Rattle.dr_columns.specs.Sources.{is_numbered};
+ghost use Rattle.dr_rows_beside.specs.Sources.{is_numbered};
 
-use crate::reading::push_leaves;
-use crate::source::Source;
 use crate::taking::Taking;
 use dr_memory::NoMemory;
 use dr_nested::Path;
 use dr_plan::Aggregate;
+use dr_rows_beside::{Source, push_leaves};
 use dr_scalar::last_leaf;
 use std::alloc::Global;
 

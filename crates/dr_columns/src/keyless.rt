@@ -4,21 +4,21 @@ ghost use Rattle.std.specs.Prelude.{◌≡◌, [], map, Some, IfOk};
 ghost use Rattle.std.specs.List.{slice_get};
 ghost use Rattle.dr_levels.specs.Views.{triplets_view};
 ghost use Rattle.dr_group.specs.Maps.{gatherings_view, tuples_view};
-ghost use Rattle.dr_columns.specs.ExprRows.{value_in};
+ghost use Rattle.dr_rows_beside.specs.ExprRows.{value_in};
 ghost use Rattle.dr_columns.specs.Numbers.{HasPut};
 ghost use Rattle.dr_columns.specs.RowPuts.{puts_in};
-ghost use Rattle.dr_columns.specs.RowsView.{rows_view};
+ghost use Rattle.dr_rows_beside.specs.RowsView.{rows_view};
 ghost use Rattle.dr_columns.specs.Takings.{taking_view, fired_view, fired_rows, taking_puts, source_puts, CanFire};
 
 use crate::firing::Fired;
 use crate::numbering::short_number;
 use crate::own::is_own;
-use crate::rows::Rows;
 use crate::taking::{Taking, put_many, put_taken};
 use dr_group::{GroupMap, Many};
 use dr_levels::Triplets;
 use dr_memory::NoMemory;
 use dr_plan::{Aggregate, Expr};
+use dr_rows_beside::Rows;
 use std::alloc::Global;
 
 /// Takes the value of an expression in each of some rows.

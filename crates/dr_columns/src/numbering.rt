@@ -6,7 +6,7 @@ ghost use Rattle.dr_levels.specs.Views.{triplets_view};
 ghost use Rattle.dr_group.specs.Groups.{put_of};
 ghost use Rattle.dr_group.specs.Maps.{gatherings_view, tuples_view};
 ghost use Rattle.dr_scalar.specs.Slots.{slot_value};
-ghost use Rattle.dr_columns.specs.RowsView.{rows_view};
+ghost use Rattle.dr_rows_beside.specs.RowsView.{rows_view};
 ghost use Rattle.dr_columns.specs.RowPuts.{keys_in, groups_in};
 ghost use Rattle.dr_columns.specs.Numbers.{tuples_at, are_among, Stay, HasPut};
 ghost use Rattle.dr_columns.specs.Takings.{fired_view, fired_rows, CanFire};
@@ -14,11 +14,10 @@ ghost use Rattle.dr_columns.specs.Takings.{fired_view, fired_rows, CanFire};
 use crate::firing::Fired;
 use crate::keys::{push_key, slot};
 use crate::own_rows::put_own_numbers;
-use crate::place::Place;
-use crate::rows::Rows;
 use dr_group::GroupMap;
 use dr_levels::{Triplets, ValueRef};
 use dr_memory::NoMemory;
+use dr_rows_beside::{Place, Rows};
 use std::alloc::Global;
 
 /// A number of a group in 32 bits.

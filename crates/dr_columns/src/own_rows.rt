@@ -4,13 +4,13 @@ ghost use Rattle.std.specs.Prelude.{◌≡◌, length, true, IfOk};
 ghost use Rattle.dr_group.specs.Maps.{gatherings_view, tuples_view};
 ghost use Rattle.dr_columns.specs.Numbers.{tuples_at, value_puts, are_among, HasPut};
 ghost use Rattle.dr_columns.specs.OwnRows.{own_values, own_tuples, own_groups};
-ghost use Rattle.dr_columns.specs.Places.{place_left};
+ghost use Rattle.dr_rows_beside.specs.Places.{place_left};
 
 use crate::numbering::short_number;
-use crate::place::Place;
 use crate::taking::put_value;
 use dr_group::GroupMap;
 use dr_memory::NoMemory;
+use dr_rows_beside::Place;
 use std::alloc::Global;
 
 /// Puts the number of the group of each value, as a key tuple of one cell. The groups that aren't there are made.

@@ -5,8 +5,8 @@ ghost use Rattle.std.specs.List.{list_all, flat_map};
 ghost use Rattle.dr_levels.specs.Views.{triplets_view};
 ghost use Rattle.dr_beside.specs.Neighbours.{column_at};
 ghost use Rattle.dr_group.specs.Maps.{gatherings_view, tuples_view};
-ghost use Rattle.dr_columns.specs.Rows.{source_view, is_fed, is_apart};
-ghost use Rattle.dr_columns.specs.RecordRows.{rows_of};
+ghost use Rattle.dr_rows_beside.specs.Rows.{source_view, is_fed, is_apart};
+ghost use Rattle.dr_rows_beside.specs.RecordRows.{rows_of};
 ghost use Rattle.dr_columns.specs.RowPuts.{keys_in};
 ghost use Rattle.dr_columns.specs.Numbers.{tuples_at, are_among, HasPut};
 ghost use Rattle.dr_columns.specs.Takings.{
@@ -25,14 +25,12 @@ use crate::keyless::take_keyless;
 use crate::numbering::number_rows;
 use crate::own::is_own;
 use crate::own_rows::take_own;
-use crate::place::Place;
-use crate::rows::Rows;
-use crate::source::Source;
 use crate::taking::{Taking, take_rows, take_values};
 use dr_group::GroupMap;
 use dr_levels::Triplets;
 use dr_memory::NoMemory;
 use dr_plan::Aggregate;
+use dr_rows_beside::{Place, Rows, Source};
 use std::alloc::Global;
 
 /// Takes the rows of a source for an aggregate, by the numbers of their groups.

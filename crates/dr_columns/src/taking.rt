@@ -10,17 +10,17 @@ ghost use Rattle.dr_group.specs.Maps.{gatherings_view, tuples_view};
 ghost use Rattle.dr_scalar.specs.OverSlots.{expr_over};
 ghost use Rattle.dr_scalar.specs.Slots.{of_type, slot_value};
 ghost use Rattle.dr_scalar.specs.Views.{evaluated_view};
-ghost use Rattle.dr_columns.specs.ExprRows.{value_in};
+ghost use Rattle.dr_rows_beside.specs.ExprRows.{value_in};
 ghost use Rattle.dr_columns.specs.Numbers.{put_at, row_puts, value_puts, tuples_at, are_among, HasPut};
-ghost use Rattle.dr_columns.specs.RowsView.{rows_view};
+ghost use Rattle.dr_rows_beside.specs.RowsView.{rows_view};
 
 use crate::keys::slot;
 use crate::numbering::short_number;
-use crate::rows::Rows;
 use dr_group::{GroupMap, Many, Taken};
 use dr_levels::ValueRef;
 use dr_memory::NoMemory;
 use dr_plan::{Aggregate, Expr, Number, TextOf};
+use dr_rows_beside::Rows;
 use dr_scalar::{Evaluated, eval};
 use std::alloc::Global;
 

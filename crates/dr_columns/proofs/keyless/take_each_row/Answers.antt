@@ -6,12 +6,12 @@ use Rattle.dr_group.specs.Groups.{put_of}
 use Rattle.dr_group.specs.Maps.{tuples_view}
 use Rattle.dr_scalar.specs.OverSlots.{expr_over}
 use Rattle.dr_scalar.specs.Slots.{slot_value}
-use Rattle.dr_columns.specs.ExprRows.{value_in}
-use Rattle.dr_columns.specs.Rows.{Row, NextRow, slot_at, slots_view}
-use Rattle.dr_columns.specs.RowsView.{rows_view}
+use Rattle.dr_rows_beside.specs.ExprRows.{value_in}
+use Rattle.dr_rows_beside.specs.Rows.{Row, NextRow, slot_at, slots_view}
+use Rattle.dr_rows_beside.specs.RowsView.{rows_view}
 use Rattle.dr_columns.specs.RowPuts.{puts_in}
 use Rattle.dr_columns.specs.Numbers.{put_at, LeavesToPut, HasPut}
-use Rattle.dr_columns.proofs.AnswerLemmas.{slots_seen}
+use Rattle.dr_rows_beside.proofs.SlotLemmas.{slots_seen}
 use Rattle.dr_columns.proofs.NumberLemmas.{one_put, is_among, tuple_got}
 use Rattle.dr_columns.proofs.keyless.take_each_row.Goals as goal
 

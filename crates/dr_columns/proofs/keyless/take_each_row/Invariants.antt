@@ -1,8 +1,8 @@
 use Rattle.std.proofs.Common.{◌≡◌, [], length}
 use Rattle.dr_group.specs.Maps.{gatherings_view, tuples_view}
-use Rattle.dr_columns.specs.ExprRows.{value_in}
+use Rattle.dr_rows_beside.specs.ExprRows.{value_in}
 use Rattle.dr_columns.specs.RowPuts.{puts_in}
-use Rattle.dr_columns.specs.RowsView.{rows_view}
+use Rattle.dr_rows_beside.specs.RowsView.{rows_view}
 use Rattle.dr_columns.specs.Numbers.{LeavesToPut}
 use Rattle.dr_columns.proofs.keyless.take_each_row.Given as goal
 

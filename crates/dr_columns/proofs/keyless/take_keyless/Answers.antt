@@ -10,7 +10,7 @@ use Rattle.dr_group.specs.Maps.{tuples_view}
 use Rattle.dr_columns.specs.declared.taking.Taking.{Taking}
 use Rattle.dr_columns.specs.Numbers.{LeavesToPut}
 use Rattle.dr_columns.specs.RowPuts.{groups_in}
-use Rattle.dr_columns.specs.Rows.{Row}
+use Rattle.dr_rows_beside.specs.Rows.{Row}
 use Rattle.dr_columns.specs.Takings.{taking_view, takings_view, fired_view, fired_rows, taking_puts, source_puts}
 use Rattle.dr_columns.proofs.KeylessLemmas.{as_many_rows, no_rows, nothing_put, one_group}
 use Rattle.dr_columns.proofs.NumberLemmas.{list_put}

@@ -7,12 +7,12 @@ use Rattle.dr_levels.specs.Views.{triplets_view}
 use Rattle.dr_agreement.proofs.OutlinedLemmas.{column_of}
 use Rattle.dr_beside.specs.Neighbours.{column_at}
 use Rattle.dr_group.specs.ManyTaken.{many_puts}
-use Rattle.dr_columns.specs.ExprRows.{value_in}
+use Rattle.dr_rows_beside.specs.ExprRows.{value_in}
 use Rattle.dr_columns.specs.Numbers.{HasPut}
-use Rattle.dr_columns.specs.RecordRows.{rows_of}
+use Rattle.dr_rows_beside.specs.RecordRows.{rows_of}
 use Rattle.dr_columns.specs.RowPuts.{puts_in}
-use Rattle.dr_columns.specs.Rows.{Row, run, source_view}
-use Rattle.dr_columns.specs.RowsView.{rows_view}
+use Rattle.dr_rows_beside.specs.Rows.{Row, run, source_view}
+use Rattle.dr_rows_beside.specs.RowsView.{rows_view}
 use Rattle.dr_columns.specs.Takings.{puts_by, takings_view}
 use Rattle.dr_columns.proofs.KeylessLemmas.{rows_at_once, own_at_once}
 use Rattle.dr_columns.proofs.keyless.take_rows_for.Goals as goal

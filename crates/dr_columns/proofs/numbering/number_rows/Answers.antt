@@ -6,11 +6,11 @@ use Rattle.dr_levels.specs.Views.{triplets_view}
 use Rattle.dr_beside.specs.Neighbours.{column_at}
 use Rattle.dr_columns.specs.Numbers.{HasPut}
 use Rattle.dr_columns.specs.OwnRows.{own_values, own_tuples, own_groups}
-use Rattle.dr_columns.specs.Places.{place_left}
-use Rattle.dr_columns.specs.RecordRows.{rows_of}
+use Rattle.dr_rows_beside.specs.Places.{place_left}
+use Rattle.dr_rows_beside.specs.RecordRows.{rows_of}
 use Rattle.dr_columns.specs.RowPuts.{keys_in, groups_in}
-use Rattle.dr_columns.specs.Rows.{Row, run, in_slot, source_view}
-use Rattle.dr_columns.specs.RowsView.{rows_view}
+use Rattle.dr_rows_beside.specs.Rows.{Row, run, in_slot, source_view}
+use Rattle.dr_rows_beside.specs.RowsView.{rows_view}
 use Rattle.dr_columns.proofs.OwnRowLemmas.{own_keys, own_rows, own_in_slot}
 use Rattle.dr_columns.proofs.numbering.number_rows.Goals as goal
 

@@ -5,11 +5,11 @@ use Rattle.dr_levels.specs.declared.triplet.ValueRef.{ValueRef}
 use Rattle.dr_group.specs.Groups.{put_of}
 use Rattle.dr_group.specs.Maps.{tuples_view}
 use Rattle.dr_scalar.specs.Slots.{slot_value}
-use Rattle.dr_columns.specs.Rows.{Row, NextRow, slot_at, slots_view}
-use Rattle.dr_columns.specs.RowsView.{rows_view}
+use Rattle.dr_rows_beside.specs.Rows.{Row, NextRow, slot_at, slots_view}
+use Rattle.dr_rows_beside.specs.RowsView.{rows_view}
 use Rattle.dr_columns.specs.RowPuts.{keys_in, groups_in}
 use Rattle.dr_columns.specs.Numbers.{tuples_at, LeavesToPut, HasPut}
-use Rattle.dr_columns.proofs.AnswerLemmas.{slots_seen}
+use Rattle.dr_rows_beside.proofs.SlotLemmas.{slots_seen}
 use Rattle.dr_columns.proofs.NumberLemmas.{one_put, numbered, one_among}
 use Rattle.dr_columns.proofs.numbering.put_numbers.Goals as goal
 

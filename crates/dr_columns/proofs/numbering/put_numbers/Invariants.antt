@@ -1,6 +1,6 @@
 use Rattle.std.proofs.Common.{◌≡◌, ◌++◌, length, map, true}
 use Rattle.dr_group.specs.Maps.{gatherings_view, tuples_view}
-use Rattle.dr_columns.specs.RowsView.{rows_view}
+use Rattle.dr_rows_beside.specs.RowsView.{rows_view}
 use Rattle.dr_columns.specs.RowPuts.{keys_in, groups_in}
 use Rattle.dr_columns.specs.Numbers.{tuples_at, are_among, LeavesToPut}
 use Rattle.dr_columns.proofs.numbering.put_numbers.Given as goal

@@ -7,7 +7,7 @@ use Rattle.dr_group.specs.Groups.{put_of}
 use Rattle.dr_group.specs.Maps.{tuples_view}
 use Rattle.dr_columns.specs.Numbers.{tuples_at, LeavesToPut, HasPut}
 use Rattle.dr_columns.specs.OwnRows.{own_tuples, own_groups}
-use Rattle.dr_columns.specs.Places.{place_left}
+use Rattle.dr_rows_beside.specs.Places.{place_left}
 use Rattle.dr_columns.proofs.NumberLemmas.{one_put, numbered, one_among}
 use Rattle.dr_columns.proofs.OwnRowLemmas.{next_groups, next_tuples}
 use Rattle.dr_columns.proofs.own_rows.put_own_numbers.Goals as goal

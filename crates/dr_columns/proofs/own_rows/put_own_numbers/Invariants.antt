@@ -2,7 +2,7 @@ use Rattle.std.proofs.Common.{◌≡◌, ◌++◌, length, true}
 use Rattle.dr_group.specs.Maps.{gatherings_view, tuples_view}
 use Rattle.dr_columns.specs.Numbers.{tuples_at, are_among, LeavesToPut}
 use Rattle.dr_columns.specs.OwnRows.{own_tuples, own_groups}
-use Rattle.dr_columns.specs.Places.{place_left}
+use Rattle.dr_rows_beside.specs.Places.{place_left}
 use Rattle.dr_columns.proofs.own_rows.put_own_numbers.Given as goal
 
 -- the groups of the values before the next one are numbered

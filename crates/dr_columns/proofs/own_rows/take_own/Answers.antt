@@ -5,7 +5,7 @@ use Rattle.dr_meaning.specs.Record.{Value}
 use Rattle.dr_group.specs.Maps.{tuples_view}
 use Rattle.dr_columns.specs.Numbers.{put_at, value_puts, tuples_at, LeavesToPut, HasPut}
 use Rattle.dr_columns.specs.OwnRows.{own_values}
-use Rattle.dr_columns.specs.Places.{place_left}
+use Rattle.dr_rows_beside.specs.Places.{place_left}
 use Rattle.dr_columns.proofs.NumberLemmas.{one_put, among_at, next_value_put}
 use Rattle.dr_columns.proofs.OwnRowLemmas.{no_more_own, next_values}
 use Rattle.dr_columns.proofs.own_rows.take_own.Goals as goal

@@ -2,7 +2,7 @@ use Rattle.std.proofs.Common.{◌≡◌, drop}
 use Rattle.dr_group.specs.Maps.{gatherings_view, tuples_view}
 use Rattle.dr_columns.specs.Numbers.{value_puts, tuples_at, LeavesToPut}
 use Rattle.dr_columns.specs.OwnRows.{own_values}
-use Rattle.dr_columns.specs.Places.{place_left}
+use Rattle.dr_rows_beside.specs.Places.{place_left}
 use Rattle.dr_columns.proofs.own_rows.take_own.Given as goal
 
 -- the values of the numbers before this one are taken

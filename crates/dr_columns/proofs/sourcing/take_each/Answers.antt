@@ -3,8 +3,8 @@ use Rattle.std.specs.List.{flat_map}
 use Rattle.dr_meaning.specs.Record.{Value}
 use Rattle.dr_levels.specs.Views.{triplets_view}
 use Rattle.dr_columns.specs.Numbers.{tuples_at, LeavesToPut}
-use Rattle.dr_columns.specs.RecordRows.{rows_of}
-use Rattle.dr_columns.specs.Rows.{Row}
+use Rattle.dr_rows_beside.specs.RecordRows.{rows_of}
+use Rattle.dr_rows_beside.specs.Rows.{Row}
 use Rattle.dr_columns.specs.Takings.{taking_view, takings_view, taking_puts}
 use Rattle.dr_columns.proofs.NumberLemmas.{list_put}
 use Rattle.dr_columns.proofs.TakingLemmas.{next_taking}

@@ -2,7 +2,7 @@ use Rattle.std.proofs.Common.{◌≡◌, ℕ, List, drop, map}
 use Rattle.std.specs.List.{flat_map}
 use Rattle.dr_levels.specs.Views.{triplets_view}
 use Rattle.dr_group.specs.Maps.{gatherings_view, tuples_view}
-use Rattle.dr_columns.specs.RecordRows.{rows_of}
+use Rattle.dr_rows_beside.specs.RecordRows.{rows_of}
 use Rattle.dr_columns.specs.RowPuts.{keys_in}
 use Rattle.dr_columns.specs.Numbers.{tuples_at, LeavesToPut}
 use Rattle.dr_columns.specs.Takings.{takings_view, taking_puts}

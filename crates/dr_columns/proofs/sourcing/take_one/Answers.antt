@@ -7,13 +7,13 @@ use Rattle.dr_levels.specs.Views.{triplets_view}
 use Rattle.dr_agreement.proofs.OutlinedLemmas.{column_of}
 use Rattle.dr_beside.specs.Neighbours.{column_at}
 use Rattle.dr_group.specs.Maps.{tuples_view}
-use Rattle.dr_columns.specs.ExprRows.{value_in}
+use Rattle.dr_rows_beside.specs.ExprRows.{value_in}
 use Rattle.dr_columns.specs.Numbers.{row_puts, value_puts, tuples_at, HasPut}
 use Rattle.dr_columns.specs.OwnRows.{own_values}
-use Rattle.dr_columns.specs.Places.{place_left}
-use Rattle.dr_columns.specs.RecordRows.{rows_of}
-use Rattle.dr_columns.specs.Rows.{Row, run, source_view}
-use Rattle.dr_columns.specs.RowsView.{rows_view}
+use Rattle.dr_rows_beside.specs.Places.{place_left}
+use Rattle.dr_rows_beside.specs.RecordRows.{rows_of}
+use Rattle.dr_rows_beside.specs.Rows.{Row, run, source_view}
+use Rattle.dr_rows_beside.specs.RowsView.{rows_view}
 use Rattle.dr_columns.specs.Takings.{puts_by}
 use Rattle.dr_columns.proofs.NumberLemmas.{rows_put, values_put}
 use Rattle.dr_columns.proofs.OwnRowLemmas.{own_in_rows}

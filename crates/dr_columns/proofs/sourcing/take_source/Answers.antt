@@ -6,7 +6,7 @@ use Rattle.dr_group.specs.Maps.{tuples_view}
 use Rattle.dr_columns.specs.declared.taking.Taking.{Taking}
 use Rattle.dr_columns.specs.Numbers.{tuples_at, HasPut}
 use Rattle.dr_columns.specs.RowPuts.{keys_in, groups_in}
-use Rattle.dr_columns.specs.Rows.{Row}
+use Rattle.dr_rows_beside.specs.Rows.{Row}
 use Rattle.dr_columns.specs.Takings.{fired_view, fired_rows, takings_view, taking_puts}
 use Rattle.dr_columns.proofs.NumberLemmas.{more_put}
 use Rattle.dr_columns.proofs.sourcing.take_source.Goals as goal

@@ -1,7 +1,7 @@
 use Rattle.std.proofs.Common.{◌≡◌, drop, map}
 use Rattle.dr_group.specs.Maps.{gatherings_view, tuples_view}
-use Rattle.dr_columns.specs.ExprRows.{value_in}
-use Rattle.dr_columns.specs.RowsView.{rows_view}
+use Rattle.dr_rows_beside.specs.ExprRows.{value_in}
+use Rattle.dr_rows_beside.specs.RowsView.{rows_view}
 use Rattle.dr_columns.specs.Numbers.{value_puts, tuples_at, LeavesToPut}
 use Rattle.dr_columns.proofs.taking.take_values.Given as goal
 

@@ -1,6 +1,6 @@
 use Rattle.std.proofs.Common.{◌≡◌, ◌∙◌, ◌++◌, ℕ, List, Some, length, ap, ap₂}
 use Rattle.std.specs.List.{list_all, flat_map}
-use Rattle.dr_columns.specs.Sources.{is_numbered}
+use Rattle.dr_rows_beside.specs.Sources.{is_numbered}
 use Rattle.dr_columns.specs.Takings.{Take, aggregate_leaves, takings_view, takings_at, read_of}
 use Rattle.dr_columns.proofs.FiringLemmas.{read_numbered}
 use Rattle.dr_columns.proofs.firing.Fired.of.Goals as goal

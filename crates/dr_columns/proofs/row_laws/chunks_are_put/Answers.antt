@@ -1,5 +1,0 @@
-use Rattle.dr_columns.proofs.PlanChunkLemmas.{chunks_are_put}
-use Rattle.dr_columns.proofs.row_laws.chunks_are_put.Goals as goal
-
-pub returns : goal.returns
-returns c = chunks_are_put

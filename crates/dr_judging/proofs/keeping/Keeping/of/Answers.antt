@@ -1,0 +1,32 @@
+use Rattle.std.proofs.Common.{◌≡◌, subst, List, length, ◌<◌, rules}
+use Rattle.dr_nested.specs.PathView.{paths_view}
+use Rattle.dr_judging.specs.declared.judging.Test.{Test}
+use Rattle.dr_judging.specs.declared.keeping.Keeping.{Keeping}
+use Rattle.dr_judging.specs.Makings.{IsLast, IsKeepingOf, reading}
+use Rattle.dr_judging.proofs.MakingLemmas.{none_made}
+use Rattle.dr_judging.proofs.keeping.Keeping.of.Goals as goal
+
+pub returns-then-is_empty-clause-none : goal.returns-then-is_empty-clause-none
+returns-then-is_empty-clause-none c e =
+    let none : length c.in_ok-tests.tests.items ≡ 0 = search rules in
+    none_made (paths_view c.args.plan.now.leaves.items) (reading c.args.plan.now.test.items) c.in_ok-tests.tests.items none c.in_ok-tests.ensures
+
+pub returns-clause-some : goal.returns-clause-some
+returns-clause-some c k e =
+    let F = paths_view c.args.plan.now.leaves.items in
+    let ts = c.args.plan.now.test.items in
+    let made : List Test = c.in_ok-tests.tests.items in
+    let same : c.deref.result.now ≡ made = c.deref.ensures.value in
+    let it : Keeping = record { own = c.remove-own.result; others = c.remove-own.new.self; above = c.in_ok-above.above; whole = c.new.result; answers = c.new-2.result } in
+    let z : it ≡ k = cc in
+    subst (IsKeepingOf F ts) z (record {
+      tests = made;
+      at = c.last_test-at.result;
+      made = c.in_ok-tests.ensures;
+      within = subst (λ (xs : List Test). c.last_test-at.result < length xs) same c.last_test-at.ensures.within;
+      own = c.remove-own.ensures.value;
+      others = c.remove-own.ensures.items;
+      last = subst (λ (xs : List Test). IsLast xs (length xs) c.last_test-at.result) same c.last_test-at.ensures.last;
+      depths = c.in_ok-above.ensures.many;
+      few = c.in_ok-above.ensures.few;
+    })

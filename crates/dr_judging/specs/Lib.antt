@@ -1,0 +1,21 @@
+-- What a condition keeps of columns side by side, in code.
+-- bits of a condition
+pub mod Bits
+-- answers of tests
+pub mod Answers
+-- numbers beside a literal
+pub mod Comparing
+-- tests of a leaf's number beside a literal
+pub mod LeafTests
+-- the answers of a test in rows of records
+pub mod TestRows
+-- tests of a condition
+pub mod Judging
+-- what a condition keeps
+pub mod Keepings
+-- what the bits of a condition mean
+pub mod Kept
+-- how a condition is made ready
+pub mod Makings
+-- what a condition made ready keeps
+pub mod Keeps
