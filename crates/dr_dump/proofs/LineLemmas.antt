@@ -14,8 +14,8 @@ use Rattle.dr_reading.specs.Scan.{Copy, copies_from, tablets_from, joined}
 use Rattle.dr_reading.specs.Left.{LeftTablet}
 use Rattle.dr_reading.specs.InTurn.{TabletRead, read_given, read_left, IsTabletRead, causes_at, left_from, records_in, ReadsInTurn}
 use Rattle.dr_reading.proofs.InTurnLemmas.{reads_none, given_more, one_more_left, records_more}
-use Rattle.dr_tablets.specs.Tablets.{LeavesTablets}
-use Rattle.dr_tablets.proofs.TableLemmas.{next_read, as_many, is_some_left}
+use Rattle.dr_dump.specs.Dumps.{LeavesTablets}
+use Rattle.dr_scan.proofs.TableLemmas.{next_read, as_many, is_some_left}
 use Rattle.dr_dump.specs.Dumps.{lines_text, dump_text, AreLinesOf}
 use Rattle.dr_dump.specs.Printed.{IsOfRead, IsPrintedAs, with_lines}
 use Rattle.dr_dump.specs.declared.tablet_lines.TabletLines.{TabletLines}

@@ -18,10 +18,10 @@ use Rattle.dr_walk.specs.declared.fault.AssembleFault.{AssembleFault}
 use Rattle.dr_file.specs.OpenedFiles.{rows_of}
 use Rattle.dr_file.specs.declared.opened.Opened.{Opened}
 use Rattle.dr_file.specs.declared.file_fault.FileFault.{FileFault}
-use Rattle.dr_tablets.specs.FileRecords.{AreLeavesOf, IsFaultOf, assemble_fault}
+use Rattle.dr_scan.specs.FileRecords.{AreLeavesOf, IsFaultOf, assemble_fault}
 use Rattle.dr_nested.specs.PathView.{path_view, paths_view}
 use Rattle.dr_nested.specs.declared.path.Path.{Path}
-use Rattle.dr_tablets.proofs.RecordsLemmas.{paths_same, have_leaf_paths}
+use Rattle.dr_scan.proofs.RecordsLemmas.{paths_same, have_leaf_paths}
 use Rattle.dr_dump.specs.Dumps.{lines_text}
 use Rattle.dr_dump.specs.Leaves.{rest_of, IsTold, IsLeafRecords}
 use Rattle.dr_dump.specs.Slices.{AreBehind, AreTaken}

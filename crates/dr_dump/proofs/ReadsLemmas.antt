@@ -19,9 +19,9 @@ use Rattle.dr_file.specs.declared.opened.Opened.{Opened}
 use Rattle.dr_file.specs.declared.file_fault.FileFault.{FileFault}
 use Rattle.dr_file.proofs.AskLemmas.{asks_nothing}
 use Rattle.dr_file.proofs.LeavingLemmas.{value_leaves, then_leaves, refused_leaves}
-use Rattle.dr_tablets.proofs.AskedLemmas.{leaf_asked}
-use Rattle.dr_tablets.proofs.ColumnsLemmas.{one_fault}
-use Rattle.dr_tablets.specs.FileRecords.{IsColumnsFault}
+use Rattle.dr_scan.proofs.AskedLemmas.{leaf_asked}
+use Rattle.dr_scan.proofs.ColumnsLemmas.{one_fault}
+use Rattle.dr_scan.specs.FileRecords.{IsColumnsFault}
 use Rattle.dr_dump.specs.Leaves.{IsTold, IsLeafRecords, ReadsLeaves, ReadsLeaf}
 use Rattle.dr_dump.specs.declared.leaf_records.LeafRecords.{LeafRecords}
 

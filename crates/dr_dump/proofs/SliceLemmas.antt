@@ -23,8 +23,8 @@ use Rattle.dr_beside.specs.Chunks.{IsChunk, AreChunks}
 use Rattle.dr_beside.proofs.ChunkLemmas.{column_of_both, none_has_chunk}
 use Rattle.dr_file.specs.OpenedFiles.{IsOpened, IsColumnOf, rows_of}
 use Rattle.dr_file.specs.declared.opened.Opened.{Opened}
-use Rattle.dr_tablets.specs.FileRecords.{AreLeavesOf, AreColumnsOf, AreOfFile}
-use Rattle.dr_tablets.proofs.RecordsLemmas.{leaf_at, read_at, data_at, same_footer, columns_of_file}
+use Rattle.dr_scan.specs.FileRecords.{AreLeavesOf, AreColumnsOf, AreOfFile}
+use Rattle.dr_scan.proofs.RecordsLemmas.{leaf_at, read_at, data_at, same_footer, columns_of_file}
 use Rattle.dr_dump.specs.Leaves.{rest_of, IsTold, IsLeafRecords, IsTaken}
 use Rattle.dr_dump.specs.Slices.{IsBehind, AreBehind, AreTaken}
 use Rattle.dr_dump.specs.declared.leaf_records.LeafRecords.{LeafRecords}

@@ -11,7 +11,7 @@ use Rattle.dr_file.specs.declared.opened.Opened.{Opened}
 use Rattle.dr_dump.specs.Leaves.{rest_of, IsLeafRecords, IsTaken}
 use Rattle.dr_dump.specs.Slices.{AreBehind, AreTaken}
 use Rattle.dr_dump.specs.declared.leaf_records.LeafRecords.{LeafRecords}
-use Rattle.dr_tablets.proofs.ColumnsLemmas.{leaf_there}
+use Rattle.dr_scan.proofs.ColumnsLemmas.{leaf_there}
 use Rattle.dr_dump.proofs.SliceLemmas.{there, same_item}
 
 -- ---- another leaf in the place of one

@@ -1,7 +1,7 @@
 -- What each answer of a dump says.
 use Rattle.std.specs.Prelude.{ℕ, List, string_bytes, ⊤}
 use Rattle.dr_reading.specs.Left.{LeftTablet}
-use Rattle.dr_tablets.specs.Views.{all_left_view}
+use Rattle.dr_table.specs.LeftViews.{all_left_view}
 use Rattle.dr_dump.specs.declared.dumping.Dumped.{Dumped}
 
 -- where lines are answered, this holds of them

@@ -8,7 +8,8 @@ use Rattle.dr_meaning.specs.Print.{record_text}
 use Rattle.dr_formats.specs.TableFile.{Table}
 use Rattle.dr_outside.specs.Link.{LinkShown}
 use Rattle.dr_reading.specs.Scan.{joined, tablets_of}
-use Rattle.dr_reading.specs.InTurn.{GiveInTurn}
+use Rattle.dr_reading.specs.Left.{LeftTablet}
+use Rattle.dr_reading.specs.InTurn.{GiveInTurn, LeaveInTurn}
 
 -- the lines of records
 abbrev pub lines_text : Fields → List Node → List ℕ
@@ -21,3 +22,7 @@ dump_text fs F R = flat_map (λ n. record_text fs (project (paths_of_leaves F) n
 -- a text is the lines of the records of a table, of which a link that reads its tablets in turn gives them
 abbrev pub AreLinesOf : Table → List Leaf → LinkShown → LinkShown → List ℕ → Type 0
 AreLinesOf t F link now text = (Rs : List (List Node)) × GiveInTurn t.schema F link now (tablets_of t) Rs × (text ≡ dump_text t.schema.fields F (joined Rs))
+
+-- a link that reads the tablets of a table in turn leaves some, just these
+abbrev pub LeavesTablets : Table → List Leaf → List LeftTablet → LinkShown → LinkShown → Type 0
+LeavesTablets t F ls link now = LeaveInTurn t.schema F link now (tablets_of t) ls

@@ -8,7 +8,7 @@ use Rattle.dr_outside.specs.Link.{Files}
 use Rattle.dr_outside.specs.Telling.{TellsFile}
 use Rattle.dr_walk.specs.Walking.{HasColumns}
 use Rattle.dr_file.specs.declared.opened.Opened.{Opened}
-use Rattle.dr_tablets.specs.FileRecords.{AreOfFile, AreProjected}
+use Rattle.dr_scan.specs.FileRecords.{AreOfFile, AreProjected}
 use Rattle.dr_dump.specs.Dumps.{lines_text}
 use Rattle.dr_dump.specs.Leaves.{rest_of, IsTold}
 use Rattle.dr_dump.specs.declared.leaf_records.LeafRecords.{LeafRecords}

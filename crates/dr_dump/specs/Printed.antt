@@ -9,7 +9,7 @@ use Rattle.dr_table.specs.Views.{table_view}
 use Rattle.dr_table.specs.declared.table.Table.{Table}
 use Rattle.dr_reading.specs.Left as left
 use Rattle.dr_reading.specs.InTurn.{TabletRead, read_given, read_left, IsTabletRead, causes_at}
-use Rattle.dr_tablets.specs.Views.{all_tried_view}
+use Rattle.dr_table.specs.LeftViews.{all_tried_view}
 use Rattle.dr_dump.specs.Dumps.{dump_text}
 use Rattle.dr_dump.specs.declared.tablet_lines.TabletLines.{TabletLines}
 

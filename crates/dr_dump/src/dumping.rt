@@ -5,10 +5,10 @@ ghost use Rattle.dr_nested.specs.Views.{fields_view};
 ghost use Rattle.dr_nested.specs.PathView.{path_view};
 ghost use Rattle.dr_table.specs.Views.{table_view};
 ghost use Rattle.dr_reading.specs.Scan.{tablets_of};
-ghost use Rattle.dr_tablets.specs.Asked.{AsksForTablets};
-ghost use Rattle.dr_tablets.specs.FileRecords.{AreLeavesOf};
-ghost use Rattle.dr_tablets.specs.Views.{all_left_view};
-ghost use Rattle.dr_tablets.specs.Tablets.{LeavesTablets};
+ghost use Rattle.dr_scan.specs.Asked.{AsksForTablets};
+ghost use Rattle.dr_scan.specs.FileRecords.{AreLeavesOf};
+ghost use Rattle.dr_table.specs.LeftViews.{all_left_view};
+ghost use Rattle.dr_dump.specs.Dumps.{LeavesTablets};
 ghost use Rattle.dr_dump.specs.Dumps.{AreLinesOf};
 ghost use Rattle.dr_dump.specs.Answers.{WhereLines, WhereLeft};
 ghost use Rattle.dr_dump.specs.Printed.{with_lines};
@@ -17,8 +17,7 @@ use crate::tablet_lines::{TabletLines, push_tablet};
 use dr_memory::NoMemory;
 use dr_nested::Path;
 use dr_outside::Link;
-use dr_table::Table;
-use dr_tablets::LeftTablet;
+use dr_table::{LeftTablet, Table};
 use std::alloc::Global;
 
 /// What is read of a table: the lines of its records, or the tablets that are left.

@@ -11,7 +11,7 @@ ghost use Rattle.dr_outside.specs.declared.cause.Cause.{Cause as ToldCause};
 ghost use Rattle.dr_file.specs.Asking.{is_for_path, is_request_for};
 ghost use Rattle.dr_file.specs.OpenedFiles.{is_read_fault};
 ghost use Rattle.dr_file.specs.Leaving.{LeavesLinkCounted};
-ghost use Rattle.dr_tablets.specs.FileRecords.{AreLeavesOf, IsFaultOf};
+ghost use Rattle.dr_scan.specs.FileRecords.{AreLeavesOf, IsFaultOf};
 ghost use Rattle.dr_file.specs.declared.file_fault.FileFault.{FileFault as Fault};
 ghost use Rattle.dr_dump.specs.Lines.{PrintsFile};
 

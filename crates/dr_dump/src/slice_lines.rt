@@ -11,7 +11,7 @@ ghost use Rattle.dr_assemble.specs.Views.{nodes_view};
 ghost use Rattle.dr_walk.specs.Walking.{NoneHas};
 ghost use Rattle.dr_walk.specs.declared.fault.AssembleFault.{AssembleFault as Fault};
 ghost use Rattle.dr_file.specs.OpenedFiles.{leaf_count};
-ghost use Rattle.dr_tablets.specs.FileRecords.{AreLeavesOf, IsFaultOf};
+ghost use Rattle.dr_scan.specs.FileRecords.{AreLeavesOf, IsFaultOf};
 ghost use Rattle.dr_dump.specs.Dumps.{lines_text};
 ghost use Rattle.dr_dump.specs.Leaves.{rest_of, ReadsLeaves};
 ghost use Rattle.dr_dump.specs.Lines.{is_passed as meant_passed, PrintsColumns, PrintsOpened, PrintsSome};
@@ -25,7 +25,7 @@ use dr_memory::NoMemory;
 use dr_nested::{Node, Path, Schema};
 use dr_outside::{Cause, Link};
 use dr_print::push_record_text;
-use dr_tablets::file_fault;
+use dr_scan::file_fault;
 use std::alloc::Global;
 
 /// The most records of a slice.

@@ -5,7 +5,7 @@ ghost use Rattle.dr_meaning.specs.Path.{Leaf};
 ghost use Rattle.dr_levels.specs.Views.{columns_view};
 ghost use Rattle.dr_outside.specs.Link.{Files};
 ghost use Rattle.dr_file.specs.OpenedFiles.{leaf_count};
-ghost use Rattle.dr_tablets.specs.FileRecords.{IsColumnsFault};
+ghost use Rattle.dr_scan.specs.FileRecords.{IsColumnsFault};
 ghost use Rattle.dr_dump.specs.Leaves.{ReadsLeaf, ReadsLeaves, OverTakenAt, IsTakenAt};
 ghost use Rattle.dr_dump.specs.Slices.{AreBehind, AreTaken, OverBehind};
 

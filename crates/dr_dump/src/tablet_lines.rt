@@ -4,8 +4,8 @@ ghost use Rattle.std.specs.Prelude.{◌≡◌, ◌≤◌, [], ◌∷◌, map, If
 ghost use Rattle.dr_nested.specs.Views.{fields_view};
 ghost use Rattle.dr_nested.specs.SchemaView.{schema_view};
 ghost use Rattle.dr_nested.specs.PathView.{path_view};
-ghost use Rattle.dr_tablets.specs.FileRecords.{AreLeavesOf};
-ghost use Rattle.dr_tablets.specs.Asked.{AsksForTablets};
+ghost use Rattle.dr_scan.specs.FileRecords.{AreLeavesOf};
+ghost use Rattle.dr_scan.specs.Asked.{AsksForTablets};
 ghost use Rattle.dr_dump.specs.Printed.{IsPrintedAs, copies_in};
 
 use crate::file_lines::push_file;
@@ -13,8 +13,7 @@ use dr_file::FileFault;
 use dr_memory::NoMemory;
 use dr_nested::Path;
 use dr_outside::Link;
-use dr_table::{Table, path_of, placement};
-use dr_tablets::Tried;
+use dr_table::{Table, Tried, path_of, placement};
 use std::alloc::Global;
 
 /// What became of a tablet: its lines joined the text, or these copies were tried, which is each of them.

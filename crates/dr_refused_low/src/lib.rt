@@ -1,4 +1,4 @@
-//! Public calls of the crates from bytes to tables and records, each once more under the promises that it makes there.
+//! Public calls of the crates from bytes to tables, each once more under the promises that it makes there.
 //! That a call's own promises give these is proved here; so a wrong body that these refuse is refused by the call's own
 //! crate, too. The wrong bodies stand in must-fail/, one line each.
 #![tactic(auto)]
@@ -23,6 +23,5 @@ pub mod page;
 pub mod plain;
 pub mod print;
 pub mod pruning;
-pub mod records;
 pub mod table;
 pub mod written;

@@ -4,10 +4,10 @@ ghost use Rattle.std.specs.Prelude.{◌≡◌, ◌≤◌, map, IfOk, IsTrue};
 ghost use Rattle.dr_nested.specs.Views.{fields_view};
 ghost use Rattle.dr_nested.specs.PathView.{path_view};
 ghost use Rattle.dr_table.specs.Views.{table_view};
-ghost use Rattle.dr_tablets.specs.FileRecords.{AreLeavesOf};
+ghost use Rattle.dr_scan.specs.FileRecords.{AreLeavesOf};
 ghost use Rattle.dr_reading.specs.Scan.{tablets_of};
-ghost use Rattle.dr_tablets.specs.Asked.{AsksForTablets};
-ghost use Rattle.dr_tablets.specs.Tablets.{LeavesTablets};
+ghost use Rattle.dr_scan.specs.Asked.{AsksForTablets};
+ghost use Rattle.dr_dump.specs.Dumps.{LeavesTablets};
 ghost use Rattle.dr_dump.specs.Dumps.{AreLinesOf};
 ghost use Rattle.dr_dump.specs.Answers.{WhereLines, WhereLeft};
 

@@ -9,5 +9,4 @@ pub mod dumping;
 pub mod loading;
 pub mod running;
 pub mod scanning;
-pub mod tablets;
 pub mod words;

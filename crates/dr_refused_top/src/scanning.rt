@@ -10,8 +10,8 @@ ghost use Rattle.dr_file.specs.OpenedFiles.{is_read_fault};
 ghost use Rattle.dr_file.specs.Leaving.{LeavesLinkCounted};
 ghost use Rattle.dr_meaning.specs.Record.{Node};
 ghost use Rattle.dr_formats.specs.File.{IsFileOf};
-ghost use Rattle.dr_tablets.specs.Counting.{counted};
-ghost use Rattle.dr_tablets.specs.FileRecords.{IsFaultOf, triplets_at};
+ghost use Rattle.dr_table.specs.Counting.{counted};
+ghost use Rattle.dr_scan.specs.FileRecords.{IsFaultOf, triplets_at};
 ghost use Rattle.dr_partials.specs.PartialTypes.{is_partial};
 ghost use Rattle.dr_partials.specs.PartialBounds.{PartialCanBeOf};
 ghost use Rattle.dr_partials.specs.Rewriting.{leaf_query};
@@ -27,7 +27,7 @@ use dr_nested::Schema;
 use dr_outside::Link;
 use dr_plan::Plan;
 use dr_scan::scan;
-use dr_tablets::Steps;
+use dr_table::Steps;
 use std::alloc::Global;
 
 /// As `scan`.

@@ -22,10 +22,10 @@ use Rattle.dr_group.specs.Partials.{IsPartialOf, partial_view}
 use Rattle.dr_partials.specs.Partials.{partial_of}
 use Rattle.dr_plan.specs.Planned.{plan_leaves, plan_view, planned_query}
 use Rattle.dr_plan.specs.declared.plan.Plan.{Plan}
-use Rattle.dr_tablets.specs.Counting.{counted}
-use Rattle.dr_tablets.specs.FileRecords.{AreLeavesOf, AreColumnsOf, AreColumnsOfFile, IsFaultOf, assemble_fault}
-use Rattle.dr_tablets.proofs.ColumnsLemmas.{leaf_there}
-use Rattle.dr_tablets.proofs.RecordsLemmas.{leaf_at, read_at, data_at, same_footer, columns_of_file}
+use Rattle.dr_table.specs.Counting.{counted}
+use Rattle.dr_scan.specs.FileRecords.{AreLeavesOf, AreColumnsOf, AreColumnsOfFile, IsFaultOf, assemble_fault}
+use Rattle.dr_scan.proofs.ColumnsLemmas.{leaf_there}
+use Rattle.dr_scan.proofs.RecordsLemmas.{leaf_at, read_at, data_at, same_footer, columns_of_file}
 use Rattle.dr_walk.specs.Batches.{is_last}
 use Rattle.dr_walk.specs.Walking.{HasColumns}
 use Rattle.dr_walk.specs.declared.fault.AssembleFault.{AssembleFault}

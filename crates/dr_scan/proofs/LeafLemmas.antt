@@ -10,7 +10,7 @@ use Rattle.dr_moves.specs.Selection.{all_differ}
 use Rattle.dr_plan.specs.Planned.{Planned, plan_leaves, IsOfSchema}
 use Rattle.dr_plan.specs.declared.plan.Plan.{Plan}
 use Rattle.dr_made_laws.proofs.LeavesInOrderLemmas.{query_leaves_in_order}
-use Rattle.dr_tablets.specs.FileRecords.{AreLeavesOf}
+use Rattle.dr_scan.specs.FileRecords.{AreLeavesOf}
 use Rattle.dr_walk.specs.Walking.{leaf_of}
 use Rattle.dr_within.specs.Rows.{IsOfLeaf}
 use Rattle.dr_scan.proofs.ScanLemmas.{plan_has_leaves}

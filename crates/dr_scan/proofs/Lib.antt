@@ -1,3 +1,15 @@
+-- leaves that are named or used, among those of the schema
+pub mod UsedLeaves
+-- the columns of a file's leaves, what their faults say of it, and how much there is
+pub mod ColumnsLemmas
+pub mod RecordsLemmas
+pub mod FewLemmas
+-- what is asked for, of a file and of tablets
+pub mod AskedLemmas
+pub mod AskedTablets
+-- the copies of a tablet, and the tablets of a table, in turn
+pub mod CopyLemmas
+pub mod TableLemmas
 -- literals that are summed
 pub mod LiteralLemmas
 -- the partial of records of which no leaf is read

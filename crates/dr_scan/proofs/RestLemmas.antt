@@ -25,7 +25,7 @@ use Rattle.dr_group.proofs.PartialLemmas.{alike}
 use Rattle.dr_plan.specs.Planned.{Planned, IsOfSchema, plan_leaves, plan_view, planned_query}
 use Rattle.dr_plan.specs.PlanOf.{IsPlanOf}
 use Rattle.dr_plan.specs.declared.plan.Plan.{Plan}
-use Rattle.dr_tablets.specs.Counting.{counted}
+use Rattle.dr_table.specs.Counting.{counted}
 use Rattle.dr_walk.specs.Batches.{is_last}
 use Rattle.dr_walk.specs.Walking.{HasColumns}
 use Rattle.dr_agreement.specs.Behind.{IsBehind}

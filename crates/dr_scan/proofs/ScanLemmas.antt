@@ -28,15 +28,15 @@ use Rattle.dr_plan.specs.Planned.{Planned, planned, plan_view, plan_leaves, plan
 use Rattle.dr_plan.specs.Views.{selection_view}
 use Rattle.dr_plan.specs.declared.plan.Plan.{Plan}
 use Rattle.dr_scalar.proofs.ConditionLemmas.{condition_rejoined}
-use Rattle.dr_tablets.specs.FileRecords.{AreLeavesOf, AreColumnsOfFile, AreFew, IsFaultOf, are_short, assemble_fault, triplets_at}
-use Rattle.dr_tablets.proofs.FewLemmas.{few_assembled, counted_assembled}
-use Rattle.dr_tablets.proofs.LeafLemmas.{used_are_leaves}
-use Rattle.dr_tablets.proofs.RecordsLemmas.{paths_same, file_triplets}
+use Rattle.dr_scan.specs.FileRecords.{AreLeavesOf, AreColumnsOfFile, AreFew, IsFaultOf, are_short, assemble_fault, triplets_at}
+use Rattle.dr_scan.proofs.FewLemmas.{few_assembled, counted_assembled}
+use Rattle.dr_scan.proofs.UsedLeaves.{used_are_leaves}
+use Rattle.dr_scan.proofs.RecordsLemmas.{paths_same, file_triplets}
 use Rattle.dr_walk.specs.Walking.{HasColumns}
 use Rattle.dr_walk.specs.declared.fault.AssembleFault.{AssembleFault}
 use Rattle.dr_reading.specs.Held.{held_at, held_file, present}
 use Rattle.dr_reading.specs.Scan.{Copy}
-use Rattle.dr_tablets.specs.Asked.{AsksForTablets}
+use Rattle.dr_scan.specs.Asked.{AsksForTablets}
 use Rattle.dr_reading.specs.Truth.{StandsForFile, IsTrueOf, most_values}
 use Rattle.dr_plan.specs.PlanOf.{IsPlanOf}
 use Rattle.dr_scan.specs.OfColumns.{IsOfColumns, NoneHasLeaves}

@@ -17,7 +17,7 @@ use Rattle.dr_partials.specs.Rewriting.{leaf_query}
 use Rattle.dr_reading.specs.Scan.{Copy, copy_in, copies_from}
 use Rattle.dr_reading.specs.Given.{IsFileThere, SomeIsFile, IsGiven}
 use Rattle.dr_reading.specs.Left.{Tried, AreTried}
-use Rattle.dr_tablets.proofs.CopyLemmas.{copies_split, first_behind}
+use Rattle.dr_scan.proofs.CopyLemmas.{copies_split, first_behind}
 use Rattle.dr_scan.specs.Scans.{StandsForBytes, StandsForRecords}
 use Rattle.dr_reading.specs.InTurn.{FirstGives}
 

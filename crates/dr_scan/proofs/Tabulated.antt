@@ -8,7 +8,7 @@ use Rattle.dr_meaning.specs.Column.{Triplet}
 use Rattle.dr_formats.specs.File.{most_triplets}
 use Rattle.dr_formats.specs.Writing.{triplet_count}
 use Rattle.dr_moves.specs.Leading.{Left, columns_of}
-use Rattle.dr_tablets.specs.FileRecords.{are_short}
+use Rattle.dr_scan.specs.FileRecords.{are_short}
 
 abbrev pub tabulated : ℕ → Left → List (List Triplet)
 tabulated zero f = []

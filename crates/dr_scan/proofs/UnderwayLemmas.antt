@@ -24,7 +24,7 @@ use Rattle.dr_file.specs.declared.opened.Opened.{Opened}
 use Rattle.dr_group.specs.declared.partial.Partial.{Partial}
 use Rattle.dr_plan.specs.Planned.{plan_leaves}
 use Rattle.dr_plan.specs.declared.plan.Plan.{Plan}
-use Rattle.dr_tablets.specs.Counting.{counted}
+use Rattle.dr_table.specs.Counting.{counted}
 use Rattle.dr_walk.specs.declared.level_walk.LevelWalk.{LevelWalk}
 use Rattle.dr_walk.specs.Batches.{Shrinks, is_last}
 use Rattle.dr_walk.specs.Checking.{rest_at}

@@ -1,3 +1,8 @@
+-- what is read of a file for some leaves, and what a link is asked for
+pub mod FileRecords
+pub mod Asked
+-- laws of leaves, proved on a law function of src/
+pub mod LeafLaws
 -- aggregates that count rows
 pub mod RowCounts
 -- what columns, a file, a tablet and tablets give

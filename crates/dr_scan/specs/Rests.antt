@@ -15,7 +15,7 @@ use Rattle.dr_group.specs.Partials.{AreAlike, IsPartialOf, partial_view}
 use Rattle.dr_group.specs.declared.partial.Partial.{Partial}
 use Rattle.dr_plan.specs.Planned.{plan_leaves, plan_view, planned_query}
 use Rattle.dr_plan.specs.declared.plan.Plan.{Plan}
-use Rattle.dr_tablets.specs.Counting.{counted}
+use Rattle.dr_table.specs.Counting.{counted}
 use Rattle.dr_walk.specs.Batches.{is_last}
 use Rattle.dr_agreement.specs.Behind.{IsBehind}
 use Rattle.dr_scan.specs.Streamed.{left_at, ends_of, AreLeafStreams}

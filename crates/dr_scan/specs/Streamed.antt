@@ -21,8 +21,8 @@ use Rattle.dr_file.specs.declared.opened.Opened.{Opened}
 use Rattle.dr_group.specs.Partials.{IsPartialOf, partial_view}
 use Rattle.dr_plan.specs.Planned.{IsOfSchema, plan_leaves, plan_view}
 use Rattle.dr_plan.specs.declared.plan.Plan.{Plan}
-use Rattle.dr_tablets.specs.Counting.{counted}
-use Rattle.dr_tablets.specs.FileRecords.{AreColumnsOf, are_short}
+use Rattle.dr_table.specs.Counting.{counted}
+use Rattle.dr_scan.specs.FileRecords.{AreColumnsOf, are_short}
 use Rattle.dr_walk.specs.Walking.{HasColumns, NoneHas}
 use Rattle.dr_walk.specs.Batches.{EndsWith, IsOver, Shrinks, is_last}
 use Rattle.dr_walk.specs.declared.fault.AssembleFault.{AssembleFault}

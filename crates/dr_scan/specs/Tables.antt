@@ -9,7 +9,7 @@ use Rattle.dr_partials.specs.Rewriting.{leaf_query}
 use Rattle.dr_group.specs.Partials.{partial_view}
 use Rattle.dr_group.specs.declared.partial.Partial.{Partial}
 use Rattle.dr_reading.specs.Left.{LeftTablet}
-use Rattle.dr_tablets.specs.Views.{all_tried_view}
+use Rattle.dr_table.specs.LeftViews.{all_tried_view}
 use Rattle.dr_scan.specs.declared.tablet.Scanned.{Scanned}
 
 -- each partial stands for the leaf query on the records of its tablet, which are records of the schema

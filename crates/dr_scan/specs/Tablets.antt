@@ -11,7 +11,7 @@ use Rattle.dr_group.specs.declared.partial.Partial.{Partial}
 use Rattle.dr_reading.specs.Causes.{LeadTo}
 use Rattle.dr_reading.specs.Scan.{Copy}
 use Rattle.dr_reading.specs.InTurn.{TabletRead, read_given, read_left, IsTabletRead, causes_at}
-use Rattle.dr_tablets.specs.Views.{all_tried_view}
+use Rattle.dr_table.specs.LeftViews.{all_tried_view}
 use Rattle.dr_scan.specs.declared.tablet.Scanned.{Scanned}
 
 -- a partial stands for the leaf query on the records that were read, or these are the copies that were tried

@@ -23,11 +23,12 @@ ghost use Rattle.dr_file.specs.OpenedFiles.{leaf_count, path_of};
 ghost use Rattle.dr_file.specs.declared.opened.Opened.{Opened as MeantOpened};
 ghost use Rattle.dr_plan.specs.Planned.{IsOfSchema, plan_leaves};
 ghost use Rattle.dr_plan.specs.declared.plan.Plan.{Plan as MeantPlan};
-ghost use Rattle.dr_tablets.specs.FileRecords.{IsColumnsFault, IsFaultOf};
+ghost use Rattle.dr_scan.specs.FileRecords.{IsColumnsFault, IsFaultOf};
 ghost use Rattle.dr_walk.specs.Batches.{is_last};
 ghost use Rattle.dr_scan.specs.Chunked.{batch_forms, hand_forms, AreOfStreams};
 ghost use Rattle.dr_scan.specs.Streamed.{batch_at, ends_of, IsTold, AreLeafStreams, AreRefilled, IsOfOpened};
 
+use crate::fault::file_fault;
 use crate::handing::rest_of;
 use crate::leaf_stream::LeafStream;
 use crate::leaf_streams::leaf_streams;
@@ -40,7 +41,7 @@ use dr_memory::NoMemory;
 use dr_nested::Schema;
 use dr_outside::Link;
 use dr_plan::Plan;
-use dr_tablets::{Steps, file_fault};
+use dr_table::Steps;
 use dr_walk::AssembleFault;
 use std::alloc::Global;
 

@@ -21,7 +21,7 @@ use crate::rest::Rest;
 use dr_agreement::AtHand;
 use dr_columns::Chunks;
 use dr_memory::NoMemory;
-use dr_tablets::Steps;
+use dr_table::Steps;
 use std::alloc::Global;
 
 /// Puts what is at hand of a leaf at the end of its stream's batch, in the place of what that has, and answers how many

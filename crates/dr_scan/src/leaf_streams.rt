@@ -14,7 +14,7 @@ ghost use Rattle.dr_file.specs.Asking.{is_for_path};
 ghost use Rattle.dr_file.specs.Leaving.{LeavesLinkCounted, ServesOpened};
 ghost use Rattle.dr_file.specs.OpenedFiles.{leaf_count, path_of};
 ghost use Rattle.dr_file.specs.declared.opened.Opened.{Opened as MeantOpened};
-ghost use Rattle.dr_tablets.specs.FileRecords.{IsColumnsFault};
+ghost use Rattle.dr_scan.specs.FileRecords.{IsColumnsFault};
 ghost use Rattle.dr_walk.specs.Checking.{rest_at};
 ghost use Rattle.dr_scan.specs.Streamed.{batch_at, left_at, ends_of as meant_ends, IsTold, AreLeafStreams, AreRefilled};
 

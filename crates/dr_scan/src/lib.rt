@@ -3,6 +3,8 @@
 #![tactic(auto)]
 
 mod chunks;
+mod fault;
+mod file_columns;
 mod handing;
 pub mod laws;
 mod leaf_stream;
@@ -17,5 +19,7 @@ mod streaming;
 mod stretch;
 mod tablet;
 
+pub use fault::file_fault;
+pub use file_columns::{FileColumns, read_file_columns};
 pub use scanning::scan;
 pub use tablet::{Scanned, scan_tablet};

@@ -11,7 +11,7 @@ ghost use Rattle.dr_file.specs.Asking.{is_for_path};
 ghost use Rattle.dr_file.specs.Leaving.{LeavesLinkCounted, ServesOpened};
 ghost use Rattle.dr_file.specs.OpenedFiles.{leaf_count, path_of};
 ghost use Rattle.dr_plan.specs.Planned.{IsOfSchema, plan_leaves};
-ghost use Rattle.dr_tablets.specs.FileRecords.{IsFaultOf};
+ghost use Rattle.dr_scan.specs.FileRecords.{IsFaultOf};
 ghost use Rattle.dr_scan.specs.Streamed.{IsTold, IsOfOpened};
 
 use crate::chunks::partial_of_chunks;

@@ -14,7 +14,7 @@ use crate::leaf_streams::leaf_streams;
 use dr_file::Opened;
 use dr_group::Partial;
 use dr_memory::NoMemory;
-use dr_tablets::Steps;
+use dr_table::Steps;
 use std::alloc::Global;
 
 /// The streams of an opened file's leaves, of which the columns of the first records were taken.

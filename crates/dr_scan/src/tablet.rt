@@ -11,7 +11,7 @@ ghost use Rattle.dr_group.specs.Partials.{IsPartialOf, partial_view};
 ghost use Rattle.dr_reading.specs.Truth.{most_values};
 ghost use Rattle.dr_reading.specs.Scan.{copies_from};
 ghost use Rattle.dr_plan.specs.PlanOf.{ForQuery};
-ghost use Rattle.dr_tablets.specs.Asked.{AsksForTablets};
+ghost use Rattle.dr_scan.specs.Asked.{AsksForTablets};
 ghost use Rattle.dr_scan.specs.Tablets.{IsScannedAs, WhereScanned};
 
 use crate::scanning::scan;
@@ -20,8 +20,7 @@ use dr_group::Partial;
 use dr_memory::NoMemory;
 use dr_outside::Link;
 use dr_plan::Plan;
-use dr_table::{Table, path_of, placement};
-use dr_tablets::{Steps, Tried};
+use dr_table::{Steps, Table, Tried, path_of, placement};
 use std::alloc::Global;
 
 /// What is scanned of a tablet: a partial of its records, or the copies that were tried, which is each of them.

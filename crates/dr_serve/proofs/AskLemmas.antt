@@ -16,8 +16,8 @@ use Rattle.dr_formats.specs.WritingLaws.{nth_leaf, AreAmong}
 use Rattle.dr_formats.proofs.ColumnRows.{leaf_paths}
 use Rattle.dr_formats.proofs.ColumnsFit.{EachLeaf}
 use Rattle.dr_outside.specs.Link.{Files, LinkShown}
-use Rattle.dr_tablets.specs.FileRecords.{AreLeavesOf}
-use Rattle.dr_tablets.proofs.LeafLemmas.{used_are_leaves}
+use Rattle.dr_scan.specs.FileRecords.{AreLeavesOf}
+use Rattle.dr_scan.proofs.UsedLeaves.{used_are_leaves}
 use Rattle.dr_reading.specs.Scan.{Copy, joined, tablets_of}
 use Rattle.dr_reading.specs.Given.{IsGiven, AreGiven}
 use Rattle.dr_reading.specs.Left.{LeftTablet}

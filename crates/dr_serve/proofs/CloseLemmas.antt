@@ -14,7 +14,7 @@ use Rattle.dr_plan.specs.declared.plan.Plan.{Plan}
 use Rattle.dr_reading.specs.Causes.{RisesApart}
 use Rattle.dr_reading.specs.Left.{LeftTablet, causes_of, causes_met}
 use Rattle.dr_reading.specs.Scan.{copies_from}
-use Rattle.dr_tablets.specs.Views.{all_tried_view}
+use Rattle.dr_table.specs.LeftViews.{all_tried_view}
 use Rattle.dr_scan.specs.Tables.{with_scanned}
 use Rattle.dr_scan.specs.declared.tablet.Scanned.{Scanned}
 use Rattle.dr_tree.specs.Grows.{Growth, CanAdd, Grows, with_added}

@@ -27,7 +27,7 @@ use Rattle.dr_reading.specs.Held.{Held, untold, present, held_file, held_at, hel
 use Rattle.dr_reading.specs.Causes.{RisesApart}
 use Rattle.dr_reading.specs.Left.{LeftTablet, AreTried, LeftUnanswered, no_tablets, is_answered, is_left, causes_met}
 use Rattle.dr_reading.specs.Scan.{Copy, copy_paths, copies_from, tablets_from, tablets_of, joined}
-use Rattle.dr_tablets.specs.Views.{all_tried_view}
+use Rattle.dr_table.specs.LeftViews.{all_tried_view}
 use Rattle.dr_reading.specs.Truth.{TabletTruth, StandsForFile}
 use Rattle.dr_reading.specs.Outcome.{truth_of}
 use Rattle.dr_scan.specs.declared.tablet.Scanned.{Scanned}

@@ -21,7 +21,7 @@ use Rattle.dr_plan.specs.declared.plan.Plan.{Plan}
 use Rattle.dr_reading.specs.Causes.{RisesApart}
 use Rattle.dr_reading.specs.Left.{LeftTablet, AreTried, LeftUnanswered, no_tablets, is_answered, is_left, causes_met}
 use Rattle.dr_reading.specs.Scan.{Copy, copies_from, tablets_from, tablets_of}
-use Rattle.dr_tablets.specs.Views.{all_tried_view}
+use Rattle.dr_table.specs.LeftViews.{all_tried_view}
 use Rattle.dr_reading.specs.Truth.{IsTrueOf}
 use Rattle.dr_reading.specs.Outcome.{Serving, serving_leaves, truth_of, HasPiece, AreTrueFrom, IsFinished, IsUnfinished}
 use Rattle.dr_scan.specs.declared.tablet.Scanned.{Scanned}

@@ -14,8 +14,8 @@ use Rattle.dr_file.proofs.AskLemmas.{asks_weaker}
 use Rattle.dr_plan.specs.Planned.{plan_leaves}
 use Rattle.dr_plan.specs.declared.plan.Plan.{Plan}
 use Rattle.dr_reading.specs.Scan.{Copy, copy_in, copies_from, tablets_of}
-use Rattle.dr_tablets.specs.Asked.{ranges_there, is_for_copy, is_for_tablet, is_for_tablets, is_at_copy, is_at_tablet, is_at_tablets, AsksHeld, AsksForTablets}
-use Rattle.dr_tablets.proofs.AskedTablets.{held_nothing, path_asks}
+use Rattle.dr_scan.specs.Asked.{ranges_there, is_for_copy, is_for_tablet, is_for_tablets, is_at_copy, is_at_tablet, is_at_tablets, AsksHeld, AsksForTablets}
+use Rattle.dr_scan.proofs.AskedTablets.{held_nothing, path_asks}
 use Rattle.dr_serve.specs.Links.{Worked}
 use Rattle.dr_serve.proofs.LeafLemmas.{IsOneOf, IsOfTable, tablet_among}
 

@@ -27,7 +27,7 @@ use Rattle.dr_reading.specs.InTurn.{TabletRead, read_given, read_left, FirstGive
 use Rattle.dr_reading.specs.Left.{Tried, AreTried, causes_of}
 use Rattle.dr_reading.specs.Scan.{Copy, copy_paths, copies_from, tablets_of}
 use Rattle.dr_reading.proofs.InTurnLemmas.{left_rise_apart}
-use Rattle.dr_tablets.specs.Views.{all_tried_view}
+use Rattle.dr_table.specs.LeftViews.{all_tried_view}
 use Rattle.dr_reading.specs.Pieces.{copies_at}
 use Rattle.dr_reading.specs.Truth.{StandsForFile, IsTrueOf, most_values}
 use Rattle.dr_scan.specs.Scans.{StandsForRecords, truth_at}

@@ -22,11 +22,11 @@ use Rattle.dr_plan.specs.declared.plan.Plan.{Plan}
 use Rattle.dr_reading.specs.Causes.{RisesApart}
 use Rattle.dr_reading.specs.Left.{LeftTablet, causes_met}
 use Rattle.dr_reading.specs.Scan.{tablets_of}
-use Rattle.dr_tablets.specs.Asked.{is_at_tablets, is_for_tablets}
-use Rattle.dr_tablets.specs.Views.{left_view, all_left_view}
-use Rattle.dr_tablets.proofs.AskedTablets.{held_nothing}
-use Rattle.dr_tablets.specs.declared.left.LeftTablet as code
-use Rattle.dr_tablets.specs.declared.left.Tried as code_tried
+use Rattle.dr_scan.specs.Asked.{is_at_tablets, is_for_tablets}
+use Rattle.dr_table.specs.LeftViews.{left_view, all_left_view}
+use Rattle.dr_scan.proofs.AskedTablets.{held_nothing}
+use Rattle.dr_table.specs.declared.left.LeftTablet as code
+use Rattle.dr_table.specs.declared.left.Tried as code_tried
 use Rattle.dr_reading.specs.Outcome.{Serving, IsUnfinished}
 use Rattle.dr_scan.specs.declared.tablet.Scanned.{Scanned}
 use Rattle.dr_scan.proofs.ScanLemmas.{leaves_are}

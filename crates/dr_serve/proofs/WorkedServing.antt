@@ -10,8 +10,8 @@ use Rattle.dr_outside.specs.Link.{Files}
 use Rattle.dr_group.specs.declared.partial.Partial.{Partial}
 use Rattle.dr_reading.specs.Left.{LeftTablet}
 use Rattle.dr_reading.specs.Scan.{Copy}
-use Rattle.dr_tablets.specs.Views.{all_tried_view}
-use Rattle.dr_tablets.specs.declared.left.Tried as code
+use Rattle.dr_table.specs.LeftViews.{all_tried_view}
+use Rattle.dr_table.specs.declared.left.Tried as code
 use Rattle.dr_scan.specs.declared.tablet.Scanned.{Scanned}
 use Rattle.dr_tree.specs.Places.{has_free}
 use Rattle.dr_serve.specs.Working.{table_job}

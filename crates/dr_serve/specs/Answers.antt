@@ -11,7 +11,7 @@ use Rattle.dr_reading.specs.Left.{LeftTablet}
 use Rattle.dr_serve.specs.Counted.{AreCounted, AreLeftOf, held_of}
 use Rattle.dr_serve.specs.Rounds.{Rounds}
 use Rattle.dr_serve.specs.Serving.{IsShare, first_shown}
-use Rattle.dr_tablets.specs.Views.{all_left_view}
+use Rattle.dr_table.specs.LeftViews.{all_left_view}
 use Rattle.dr_serve.specs.declared.queried.Queried.{Queried}
 
 -- a text is what the query prints of the records of the tablets that aren't left, each tablet's once, in their order

@@ -15,7 +15,7 @@ use Rattle.dr_reading.specs.Left.{LeftTablet, AreTried, causes_of, causes_met}
 use Rattle.dr_reading.specs.InTurn.{TabletRead, read_given, read_left, IsTabletRead, causes_at as read_causes}
 use Rattle.dr_reading.specs.Scan.{copies_from}
 use Rattle.dr_reading.specs.Truth.{most_values}
-use Rattle.dr_tablets.specs.Views.{all_tried_view}
+use Rattle.dr_table.specs.LeftViews.{all_tried_view}
 use Rattle.dr_scan.specs.declared.tablet.Scanned.{Scanned}
 use Rattle.dr_tree.specs.Grows.{Growth, CanAdd, Grows, with_added}
 use Rattle.dr_tree.specs.Places.{Place}

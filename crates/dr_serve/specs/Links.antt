@@ -6,7 +6,7 @@ use Rattle.dr_outside.specs.Link.{LinkShown}
 use Rattle.dr_plan.specs.Planned.{plan_leaves}
 use Rattle.dr_plan.specs.declared.plan.Plan.{Plan}
 use Rattle.dr_reading.specs.Scan.{Copy, tablets_of}
-use Rattle.dr_tablets.specs.Asked.{AsksForTablets}
+use Rattle.dr_scan.specs.Asked.{AsksForTablets}
 
 -- the link holds what it held, its count of faults didn't fall, it stays steady, and it was asked only for what the plan's leaves take of the
 -- table's tablets

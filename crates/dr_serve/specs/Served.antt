@@ -14,7 +14,7 @@ use Rattle.dr_plan.specs.Planned.{plan_view}
 use Rattle.dr_plan.specs.declared.plan.Plan.{Plan}
 use Rattle.dr_reading.specs.Left.{LeftTablet}
 use Rattle.dr_reading.specs.Scan.{tablets_of}
-use Rattle.dr_tablets.specs.Views.{all_left_view}
+use Rattle.dr_table.specs.LeftViews.{all_left_view}
 use Rattle.dr_reading.specs.Outcome.{Serving, IsFinished, IsUnfinished}
 use Rattle.dr_serve.specs.declared.outcome.Outcome.{Outcome}
 use Rattle.dr_serve.specs.Counted.{StandsForCounted, AreLeftOf, held_of}

@@ -19,7 +19,7 @@ use Rattle.dr_plan.specs.declared.plan.Plan.{Plan}
 use Rattle.dr_reading.specs.Causes.{RisesApart}
 use Rattle.dr_reading.specs.Left.{Tried, LeftTablet, causes_met}
 use Rattle.dr_reading.specs.Scan.{Copy}
-use Rattle.dr_tablets.specs.Views.{all_left_view}
+use Rattle.dr_table.specs.LeftViews.{all_left_view}
 use Rattle.dr_reading.specs.Truth.{IsTrueOf}
 use Rattle.dr_reading.specs.Outcome.{Serving, truth_of}
 use Rattle.dr_serve.specs.declared.found.Found.{Found}

@@ -8,7 +8,7 @@ ghost use Rattle.dr_group.specs.declared.partial.Partial.{Partial};
 ghost use Rattle.dr_plan.specs.Planned.{IsOfSchema, plan_leaves};
 ghost use Rattle.dr_reading.specs.Causes.{RisesApart};
 ghost use Rattle.dr_reading.specs.Left.{causes_met};
-ghost use Rattle.dr_tablets.specs.Views.{all_left_view};
+ghost use Rattle.dr_table.specs.LeftViews.{all_left_view};
 ghost use Rattle.dr_scan.specs.Tables.{with_scanned};
 ghost use Rattle.dr_serve.specs.Working.{TakesFrom};
 ghost use Rattle.dr_serve.specs.Closing.{AreAddable, CanKeep, Closes, HasClosed, HasFound, HasKept, IsNext, IsOutcomeOf, IsReadAs, causes_at, has_some};
@@ -21,8 +21,7 @@ use dr_memory::NoMemory;
 use dr_outside::Link;
 use dr_plan::Plan;
 use dr_scan::{Scanned, scan_tablet};
-use dr_table::Table;
-use dr_tablets::LeftTablet;
+use dr_table::{LeftTablet, Table};
 use dr_tree::Growing;
 use std::alloc::Global;
 

@@ -1,6 +1,6 @@
 use dr_desk::Event;
 use dr_group::Partial;
-use dr_tablets::LeftTablet;
+use dr_table::LeftTablet;
 
 /// What serving a query ends with.
 #[derive(Drop)]

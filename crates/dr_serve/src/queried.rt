@@ -1,4 +1,4 @@
-use dr_tablets::LeftTablet;
+use dr_table::LeftTablet;
 
 /// What comes of a query over a table: what it prints, or the tablets that are left.
 #[derive(PartialEq, Eq, Drop)]

@@ -8,7 +8,7 @@ ghost use Rattle.dr_tree.specs.Grows.{Growth, Grows};
 ghost use Rattle.dr_plan.specs.PlanOf.{ForQuery};
 ghost use Rattle.dr_plan.specs.Planned.{IsOfSchema, plan_leaves};
 ghost use Rattle.dr_reading.specs.Scan.{tablets_of};
-ghost use Rattle.dr_tablets.specs.Views.{all_left_view};
+ghost use Rattle.dr_table.specs.LeftViews.{all_left_view};
 ghost use Rattle.dr_serve.specs.Closing.{AreAddable, HasAnswered};
 ghost use Rattle.dr_serve.specs.GrowsOn.{AreSame, GrowsOn};
 ghost use Rattle.dr_serve.specs.Working.{table_job, TakesFrom};

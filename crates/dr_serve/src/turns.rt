@@ -20,8 +20,7 @@ use dr_memory::NoMemory;
 use dr_outside::Link;
 use dr_plan::Plan;
 use dr_scan::scan;
-use dr_table::{Table, path_of};
-use dr_tablets::Steps;
+use dr_table::{Steps, Table, path_of};
 use std::alloc::Global;
 use std::sync::{Mutex, Wait};
 

@@ -3,3 +3,5 @@ mod LineLemmas
 mod LeafLemmas
 pub mod PathLemmas
 mod TextLemmas
+-- what is left, told
+mod ReportLemmas

@@ -8,3 +8,9 @@ pub mod Faults
 pub mod Views
 -- the text of a table by its parts
 pub mod Writing
+-- what tablets that are left stand for
+pub mod LeftViews
+-- how they are told
+pub mod Reports
+-- steps of work
+pub mod Counting

@@ -9,7 +9,7 @@ use dr_outside::{MemLink, Shelf};
 use dr_plan::Plan;
 use dr_print::result_text;
 use dr_scan::scan;
-use dr_tablets::Steps;
+use dr_table::Steps;
 use std::alloc::Global;
 use std::test::Fail;
 

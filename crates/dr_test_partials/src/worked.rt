@@ -19,7 +19,7 @@ use dr_outside::{Link, MemSource, Shelf};
 use dr_page::PageForm;
 use dr_plan::Plan;
 use dr_scan::scan;
-use dr_tablets::Steps;
+use dr_table::Steps;
 use std::alloc::Global;
 use std::test::Fail;
 

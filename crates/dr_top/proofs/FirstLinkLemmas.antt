@@ -2,7 +2,7 @@
 use Rattle.std.specs.Prelude.{◌≡◌, ◌<◌, ℕ, ⊤, List, [], ◌∷◌, map, length, string_bytes}
 use Rattle.std.proofs.Common.{ap, drop, get_or, slice_set, arith}
 use Rattle.dr_outside.specs.Link.{LinkShown}
-use Rattle.dr_tablets.specs.Views.{all_left_view}
+use Rattle.dr_table.specs.LeftViews.{all_left_view}
 use Rattle.dr_outside.specs.declared.cause.Cause.{Cause}
 use Rattle.dr_commands.specs.Meaning.{Outcome, done, refused, scans, serves, looks_at, stops}
 use Rattle.dr_reading.specs.Left.{LeftTablet}

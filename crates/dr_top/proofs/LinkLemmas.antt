@@ -7,8 +7,8 @@ use Rattle.dr_outside.specs.Link.{LinkShown, Lacks}
 use Rattle.dr_outside.specs.Telling.{TellsFile, AsksOnly}
 use Rattle.dr_file.specs.Asking.{is_for_path, is_request_for}
 use Rattle.dr_reading.specs.Scan.{Scan}
-use Rattle.dr_tablets.specs.Asked.{AsksForTablets}
-use Rattle.dr_tablets.proofs.AskedTablets.{asks_none, held_nothing, path_asks}
+use Rattle.dr_scan.specs.Asked.{AsksForTablets}
+use Rattle.dr_scan.proofs.AskedTablets.{asks_none, held_nothing, path_asks}
 use Rattle.dr_serve.specs.Links.{OfEachLink}
 use Rattle.dr_commands.specs.Meaning.{Meaning, Outcome, done, refused, scans, serves, looks_at, stops}
 use Rattle.dr_commands.specs.Commands.{CommandWords, meaning_of}

@@ -11,7 +11,7 @@ use Rattle.dr_outside.specs.Link.{LinkShown}
 use Rattle.dr_reading.specs.InTurn.{TabletRead}
 use Rattle.dr_reading.specs.Scan.{tablets_from, tablets_of}
 use Rattle.dr_reading.specs.Left.{LeftTablet}
-use Rattle.dr_tablets.specs.Asked.{AsksForTablets}
+use Rattle.dr_scan.specs.Asked.{AsksForTablets}
 use Rattle.dr_serve.specs.Links.{OfEachLink}
 use Rattle.dr_serve.specs.Serving.{IsShare, first_shown}
 use Rattle.dr_serve.specs.Counted.{AreLeftOf}

@@ -9,8 +9,8 @@ use Rattle.dr_outside.specs.Sink.{SinkShown, Added, AddedWhole, AddedFront}
 use Rattle.dr_outside.specs.Link.{LinkShown}
 use Rattle.dr_outside.specs.declared.cause.Cause.{Cause}
 use Rattle.dr_reading.specs.LeftText.{told_cause, left_text}
-use Rattle.dr_tablets.specs.Views.{all_left_view}
-use Rattle.dr_tablets.specs.declared.left.LeftTablet.{LeftTablet}
+use Rattle.dr_table.specs.LeftViews.{all_left_view}
+use Rattle.dr_table.specs.declared.left.LeftTablet.{LeftTablet}
 use Rattle.dr_commands.specs.Refusals.{Refusal as Refused, refusal_text}
 use Rattle.dr_commands.specs.Meaning.{Meaning, first_refusal, IsEarly}
 use Rattle.dr_commands.specs.Commands.{CommandWords, meaning_of}

@@ -20,7 +20,7 @@ use Rattle.dr_top.specs.Reading.{IsLookedAt, IsSchemaShown, IsSchemaCause, Leave
 use Rattle.dr_top.specs.Answers.{Finishes}
 use Rattle.dr_top.specs.Stops.{SchemaStops, StopsWith, file_stop}
 use Rattle.dr_top.specs.declared.stop.Stop.{Stop}
-use Rattle.dr_tablets.proofs.CopyLemmas.{leads_more}
+use Rattle.dr_scan.proofs.CopyLemmas.{leads_more}
 use Rattle.dr_top.proofs.PutLemmas.{unput, put_nothing, put_none}
 
 -- ---- the text

@@ -8,7 +8,7 @@ use Rattle.dr_outside.specs.Source.{SourceShown}
 use Rattle.dr_outside.specs.Link.{LinkShown}
 use Rattle.dr_load.specs.Puts.{HasPut}
 use Rattle.dr_file.specs.Asking.{is_for_path, is_request_for}
-use Rattle.dr_tablets.specs.Asked.{AsksHeld, AsksForTablets}
+use Rattle.dr_scan.specs.Asked.{AsksHeld, AsksForTablets}
 use Rattle.dr_commands.specs.Meaning.{Meaning, Outcome, done, refused, scans, serves, looks_at, stops, puts_in}
 use Rattle.dr_commands.specs.Session.{session_outcome}
 use Rattle.dr_top.specs.World.{Lent, IsFileOf, ForInput, outcome_on, OpensBy, WithEach}

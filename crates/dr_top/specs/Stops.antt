@@ -24,7 +24,7 @@ use Rattle.dr_words.specs.declared.words_fault.WordsFault.{WordsFault}
 use Rattle.dr_top.specs.World.{Lent, IsFileOf, outcome_on, Opens, RefusesAlways, Accepts}
 use Rattle.dr_top.specs.Keeping.{IsUnput, KeepsFile, PutsSome, PutsGiven, PutsBreak, RefusesSo}
 use Rattle.dr_top.specs.Reading.{IsLeftWith, HasMost, IsFileLeft, LeavesFile}
-use Rattle.dr_tablets.specs.Views.{all_left_view}
+use Rattle.dr_table.specs.LeftViews.{all_left_view}
 use Rattle.dr_load.specs.Words.{words_problem_view}
 use Rattle.dr_load.specs.declared.words.WordsProblem.{WordsProblem}
 use Rattle.dr_bind.specs.Faults.{refusal_of as query_refusal_of}

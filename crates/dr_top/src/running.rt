@@ -12,7 +12,7 @@ use crate::stop::Stop;
 use crate::talking::hold_session;
 use crate::telling::say;
 use dr_outside::{Keeper, Link, Sink, Source, write_all};
-use dr_tablets::left_text;
+use dr_table::left_text;
 use dr_words::USAGE;
 use std::alloc::Global;
 use std::sync::Wait;

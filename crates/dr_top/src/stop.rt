@@ -13,8 +13,7 @@ use dr_load::{LoadFault, WordsProblem};
 use dr_memory::NoMemory;
 use dr_nested::SchemaFault;
 use dr_outside::{Cause, Fault};
-use dr_table::TableFault;
-use dr_tablets::LeftTablet;
+use dr_table::{LeftTablet, TableFault};
 use dr_words::WordsFault;
 use std::alloc::AllocFailed;
 

@@ -5,7 +5,7 @@ use Rattle.dr_formats.specs.File.{footer_of}
 use Rattle.dr_outside.specs.Link.{Files, Request, size_of, bytes_of}
 use Rattle.dr_reading.specs.Scan.{Copy}
 use Rattle.dr_file.specs.Asking.{is_for_path}
-use Rattle.dr_tablets.specs.Asked.{is_for_tablets, is_at_tablets}
+use Rattle.dr_scan.specs.Asked.{is_for_tablets, is_at_tablets}
 
 -- at `a/1` a file without metadata, of twelve bytes; nothing at any other path
 abbrev smallest : List ℕ

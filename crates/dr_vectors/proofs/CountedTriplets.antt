@@ -7,7 +7,7 @@ use Rattle.dr_meaning.proofs.WorkedSchemas.{document}
 use Rattle.dr_meaning.proofs.WorkedRecords.{record_10, record_20}
 use Rattle.dr_gen.specs.Document.{document_fields}
 use Rattle.dr_gen.specs.Generator.{record_of}
-use Rattle.dr_tablets.specs.FileRecords.{triplets_at}
+use Rattle.dr_scan.specs.FileRecords.{triplets_at}
 
 abbrev at : ℕ → List Leaf → List Leaf
 at i [] = []

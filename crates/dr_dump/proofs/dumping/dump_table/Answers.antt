@@ -2,9 +2,9 @@ use Rattle.std.proofs.Common.{map, ◌∙◌, string_bytes, arith}
 use Rattle.dr_nested.specs.SchemaView.{schema_view}
 use Rattle.dr_nested.specs.PathView.{path_view}
 use Rattle.dr_table.specs.Views.{table_view}
-use Rattle.dr_tablets.specs.Views.{all_left_view}
-use Rattle.dr_tablets.proofs.AskedTablets.{tablet_step}
-use Rattle.dr_tablets.proofs.TableLemmas.{no_items}
+use Rattle.dr_table.specs.LeftViews.{all_left_view}
+use Rattle.dr_scan.proofs.AskedTablets.{tablet_step}
+use Rattle.dr_scan.proofs.TableLemmas.{no_items}
 use Rattle.dr_dump.proofs.LineLemmas.{step_printed}
 use Rattle.dr_dump.proofs.dumping.dump_table.Goals as goal
 

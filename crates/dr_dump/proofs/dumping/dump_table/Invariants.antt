@@ -4,8 +4,8 @@ use Rattle.dr_nested.specs.SchemaView.{schema_view}
 use Rattle.dr_nested.specs.PathView.{path_view}
 use Rattle.dr_table.specs.Views.{table_view}
 use Rattle.dr_reading.specs.Scan.{tablets_from, tablets_of}
-use Rattle.dr_tablets.specs.Views.{all_left_view}
-use Rattle.dr_tablets.specs.Asked.{AsksForTablets}
+use Rattle.dr_table.specs.LeftViews.{all_left_view}
+use Rattle.dr_scan.specs.Asked.{AsksForTablets}
 use Rattle.dr_dump.proofs.LineLemmas.{HasPrinted}
 use Rattle.dr_dump.proofs.dumping.dump_table.Given as goal
 

@@ -7,7 +7,7 @@ use Rattle.dr_outside.specs.Telling.{TellsFile, Serves}
 use Rattle.dr_file.specs.Leaving.{LeavesLinkCounted, ServesOpened}
 use Rattle.dr_file.specs.declared.file_fault.FileFault.{FileFault}
 use Rattle.dr_file.proofs.LeavingLemmas.{then_leaves, serves_opened}
-use Rattle.dr_tablets.proofs.AskedLemmas.{opening_asked, file_asked, columns_there}
+use Rattle.dr_scan.proofs.AskedLemmas.{opening_asked, file_asked, columns_there}
 use Rattle.dr_dump.proofs.TextLemmas.{may_cut, is_some_cause}
 use Rattle.dr_dump.proofs.file_lines.push_file.Goals as goal
 

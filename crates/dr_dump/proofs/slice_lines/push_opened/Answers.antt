@@ -11,8 +11,8 @@ use Rattle.dr_outside.specs.Link.{Files}
 use Rattle.dr_outside.specs.declared.cause.Cause.{Cause}
 use Rattle.dr_file.specs.OpenedFiles.{is_link_fault}
 use Rattle.dr_file.specs.declared.file_fault.FileFault.{FileFault}
-use Rattle.dr_tablets.specs.FileRecords.{IsColumnsFault, IsFaultOf}
-use Rattle.dr_tablets.proofs.RecordsLemmas.{columns_fault, assembled_alone}
+use Rattle.dr_scan.specs.FileRecords.{IsColumnsFault, IsFaultOf}
+use Rattle.dr_scan.proofs.RecordsLemmas.{columns_fault, assembled_alone}
 use Rattle.dr_dump.specs.Lines.{is_passed}
 use Rattle.dr_dump.specs.Slices.{AreBehind, AreTaken}
 use Rattle.dr_dump.proofs.ReadsLemmas.{reads_nothing, reads_then, reads_value, reads_refused, reads_failed, reads_saying}

@@ -2,7 +2,7 @@ use Rattle.std.proofs.Common.{map, string_bytes}
 use Rattle.std.specs.Prelude.{Ok}
 use Rattle.dr_nested.specs.SchemaView.{schema_view}
 use Rattle.dr_nested.specs.PathView.{path_view}
-use Rattle.dr_tablets.specs.FileRecords.{IsFaultOf}
+use Rattle.dr_scan.specs.FileRecords.{IsFaultOf}
 use Rattle.dr_dump.specs.Leaves.{ReadsLeaves}
 use Rattle.dr_dump.proofs.PrintedLemmas.{IsPrinted}
 use Rattle.dr_dump.proofs.slice_lines.push_opened.Given as goal

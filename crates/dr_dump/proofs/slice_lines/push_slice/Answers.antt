@@ -1,4 +1,4 @@
-use Rattle.dr_tablets.proofs.RecordsLemmas.{have_leaf_paths}
+use Rattle.dr_scan.proofs.RecordsLemmas.{have_leaf_paths}
 use Rattle.dr_dump.proofs.slice_lines.push_slice.Goals as goal
 
 pub assemble-requires : goal.assemble-requires

@@ -5,7 +5,7 @@ use Rattle.dr_meaning.specs.Column.{column}
 use Rattle.dr_levels.specs.Views.{column_view, columns_view}
 use Rattle.dr_outside.specs.Link.{Files}
 use Rattle.dr_file.specs.declared.file_fault.FileFault.{FileFault}
-use Rattle.dr_tablets.specs.FileRecords.{IsColumnsFault}
+use Rattle.dr_scan.specs.FileRecords.{IsColumnsFault}
 use Rattle.dr_dump.specs.Leaves.{IsTaken}
 use Rattle.dr_dump.specs.Slices.{AreTaken}
 use Rattle.dr_dump.proofs.ReadsLemmas.{reads_then, reads_value, reads_refused, reads_failed, reads_one}

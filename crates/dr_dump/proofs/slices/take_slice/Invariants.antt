@@ -4,7 +4,7 @@ use Rattle.dr_meaning.specs.Path.{Leaf}
 use Rattle.dr_meaning.specs.Record.{Node}
 use Rattle.dr_levels.specs.Views.{columns_view}
 use Rattle.dr_file.specs.declared.opened.Opened.{Opened}
-use Rattle.dr_tablets.specs.FileRecords.{IsColumnsFault}
+use Rattle.dr_scan.specs.FileRecords.{IsColumnsFault}
 use Rattle.dr_dump.specs.Leaves.{ReadsLeaves}
 use Rattle.dr_dump.specs.Slices.{AreBehind, AreTaken}
 use Rattle.dr_dump.proofs.slices.take_slice.Given as goal

@@ -6,8 +6,8 @@ use Rattle.dr_table.specs.Views.{table_view}
 use Rattle.dr_reading.specs.Causes.{LeadTo}
 use Rattle.dr_reading.specs.Scan.{copies_from}
 use Rattle.dr_reading.specs.Left.{AreTried, causes_of}
-use Rattle.dr_tablets.specs.Views.{all_tried_view}
-use Rattle.dr_tablets.specs.Asked.{AsksForTablets}
+use Rattle.dr_table.specs.LeftViews.{all_tried_view}
+use Rattle.dr_scan.specs.Asked.{AsksForTablets}
 use Rattle.dr_dump.proofs.tablet_lines.push_tablet.Given as goal
 
 -- the copies before this one were tried, and nothing is printed

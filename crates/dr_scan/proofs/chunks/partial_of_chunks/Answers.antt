@@ -20,10 +20,10 @@ use Rattle.dr_file.specs.declared.file_fault.FileFault.{FileFault}
 use Rattle.dr_file.proofs.AskLemmas.{asks_nothing}
 use Rattle.dr_file.proofs.LeavingLemmas.{same_fault_leaves, then_leaves, refused_leaves}
 use Rattle.dr_plan.specs.Planned.{plan_leaves}
-use Rattle.dr_tablets.specs.Counting.{counted}
-use Rattle.dr_tablets.specs.FileRecords.{IsFaultOf}
-use Rattle.dr_tablets.proofs.ColumnsLemmas.{err_is}
-use Rattle.dr_tablets.proofs.RecordsLemmas.{columns_fault}
+use Rattle.dr_table.specs.Counting.{counted}
+use Rattle.dr_scan.specs.FileRecords.{IsFaultOf}
+use Rattle.dr_scan.proofs.ColumnsLemmas.{err_is}
+use Rattle.dr_scan.proofs.RecordsLemmas.{columns_fault}
 use Rattle.dr_walk.specs.Batches.{is_last}
 use Rattle.dr_walk.specs.declared.fault.AssembleFault.{AssembleFault}
 use Rattle.dr_scan.specs.Chunked.{batch_forms, AreOfStreams}

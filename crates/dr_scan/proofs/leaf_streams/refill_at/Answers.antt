@@ -11,9 +11,9 @@ use Rattle.dr_file.specs.Leaving.{LeavesLinkCounted, ServesOpened}
 use Rattle.dr_file.specs.OpenedFiles.{path_of}
 use Rattle.dr_file.specs.declared.opened.Opened.{Opened}
 use Rattle.dr_file.proofs.LeavingLemmas.{same_fault_leaves, value_leaves}
-use Rattle.dr_tablets.specs.FileRecords.{IsColumnsFault}
-use Rattle.dr_tablets.proofs.AskedLemmas.{leaf_asked}
-use Rattle.dr_tablets.proofs.ColumnsLemmas.{leaf_there, one_fault, err_is}
+use Rattle.dr_scan.specs.FileRecords.{IsColumnsFault}
+use Rattle.dr_scan.proofs.AskedLemmas.{leaf_asked}
+use Rattle.dr_scan.proofs.ColumnsLemmas.{leaf_there, one_fault, err_is}
 use Rattle.dr_scan.specs.Streamed.{IsLeafStream, AreLeafStreams}
 use Rattle.dr_scan.specs.declared.leaf_stream.LeafStream.{LeafStream}
 use Rattle.dr_scan.proofs.StreamLemmas.{refilled_all}

@@ -5,7 +5,7 @@ use Rattle.dr_meaning.specs.Path.{Leaf}
 use Rattle.dr_nested.specs.PathView.{path_view}
 use Rattle.dr_nested.specs.SchemaView.{schema_view}
 use Rattle.dr_group.specs.Partials.{partial_view}
-use Rattle.dr_tablets.specs.FileRecords.{AreColumnsOf}
+use Rattle.dr_scan.specs.FileRecords.{AreColumnsOf}
 use Rattle.dr_scan.specs.OfColumns.{IsOfColumns}
 use Rattle.dr_scan.proofs.opened.partial_of_opened.Goals as goal
 

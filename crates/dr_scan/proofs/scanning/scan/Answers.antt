@@ -10,13 +10,13 @@ use Rattle.dr_file.specs.Leaving.{ServesOpened}
 use Rattle.dr_file.proofs.LeavingLemmas.{same_fault_leaves, value_leaves, then_leaves, serves_opened}
 use Rattle.dr_group.specs.Partials.{partial_view}
 use Rattle.dr_plan.specs.Planned.{plan_leaves}
-use Rattle.dr_tablets.specs.Counting.{counted}
-use Rattle.dr_tablets.specs.FileRecords.{IsFaultOf}
-use Rattle.dr_tablets.proofs.AskedLemmas.{opening_asked, file_asked, columns_there}
-use Rattle.dr_tablets.proofs.ColumnsLemmas.{err_is, never_falls}
-use Rattle.dr_tablets.proofs.CopyLemmas.{not_absent}
-use Rattle.dr_tablets.proofs.FewLemmas.{taken_counted}
-use Rattle.dr_tablets.proofs.RecordsLemmas.{opened_fault}
+use Rattle.dr_table.specs.Counting.{counted}
+use Rattle.dr_scan.specs.FileRecords.{IsFaultOf}
+use Rattle.dr_scan.proofs.AskedLemmas.{opening_asked, file_asked, columns_there}
+use Rattle.dr_scan.proofs.ColumnsLemmas.{err_is, never_falls}
+use Rattle.dr_scan.proofs.CopyLemmas.{not_absent}
+use Rattle.dr_scan.proofs.FewLemmas.{taken_counted}
+use Rattle.dr_scan.proofs.RecordsLemmas.{opened_fault}
 use Rattle.dr_scan.proofs.LiteralLemmas.{sums_small}
 use Rattle.dr_scan.proofs.ScanLemmas.{gives_partial, stands_for_records, stands_for_bytes, columns_counted, gives_few, truth_is}
 use Rattle.dr_scan.proofs.FileLemmas.{told_then, opened_columns}

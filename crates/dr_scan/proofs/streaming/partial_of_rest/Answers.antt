@@ -21,9 +21,9 @@ use Rattle.dr_file.proofs.AskLemmas.{asks_nothing}
 use Rattle.dr_file.proofs.LeavingLemmas.{same_fault_leaves, then_leaves, refused_leaves}
 use Rattle.dr_group.specs.Partials.{partial_view}
 use Rattle.dr_plan.specs.Planned.{plan_leaves, plan_view}
-use Rattle.dr_tablets.specs.FileRecords.{IsFaultOf}
-use Rattle.dr_tablets.proofs.ColumnsLemmas.{err_is}
-use Rattle.dr_tablets.proofs.RecordsLemmas.{paths_same, columns_fault, assembled_alone}
+use Rattle.dr_scan.specs.FileRecords.{IsFaultOf}
+use Rattle.dr_scan.proofs.ColumnsLemmas.{err_is}
+use Rattle.dr_scan.proofs.RecordsLemmas.{paths_same, columns_fault, assembled_alone}
 use Rattle.dr_walk.specs.Walking.{IsAtLevels}
 use Rattle.dr_within.specs.Rows.{HasLast}
 use Rattle.dr_within.specs.declared.last_read.LastRead.{LastRead}

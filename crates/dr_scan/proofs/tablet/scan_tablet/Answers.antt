@@ -9,14 +9,14 @@ use Rattle.dr_file.specs.OpenedFiles.{HasCounts, is_link_fault}
 use Rattle.dr_file.specs.declared.file_fault.FileFault.{FileFault}
 use Rattle.dr_group.specs.Partials.{partial_view}
 use Rattle.dr_plan.specs.Planned.{plan_leaves}
-use Rattle.dr_tablets.specs.FileRecords.{IsFaultOf}
+use Rattle.dr_scan.specs.FileRecords.{IsFaultOf}
 use Rattle.dr_reading.specs.Scan.{Copy, copy_in, copies_from}
 use Rattle.dr_reading.specs.Causes.{LeadTo}
 use Rattle.dr_reading.specs.InTurn.{read_given, read_left}
 use Rattle.dr_reading.specs.Left.{Tried, IsCauseAt, AreTried, causes_of}
-use Rattle.dr_tablets.specs.Views.{tried_view, all_tried_view}
-use Rattle.dr_tablets.proofs.CopyLemmas.{copies_next, copy_cause, tried_more, leads_more, not_absent, told}
-use Rattle.dr_tablets.proofs.AskedTablets.{copy_step}
+use Rattle.dr_table.specs.LeftViews.{tried_view, all_tried_view}
+use Rattle.dr_scan.proofs.CopyLemmas.{copies_next, copy_cause, tried_more, leads_more, not_absent, told}
+use Rattle.dr_scan.proofs.AskedTablets.{copy_step}
 use Rattle.dr_scan.proofs.ScanLemmas.{leaves_are}
 use Rattle.dr_scan.proofs.TabletLemmas.{first_stands, all_tried, no_memory}
 use Rattle.dr_scan.proofs.tablet.scan_tablet.Goals as goal

@@ -4,7 +4,7 @@ use Rattle.std.specs.Prelude.{string_bytes}
 use Rattle.dr_meaning.specs.Ask.{answer_text}
 use Rattle.dr_group.specs.Partials.{partial_view}
 use Rattle.dr_table.specs.Views.{table_view}
-use Rattle.dr_tablets.specs.Views.{all_left_view}
+use Rattle.dr_table.specs.LeftViews.{all_left_view}
 use Rattle.dr_tree.specs.Views.{tree_view}
 use Rattle.dr_serve.specs.Served.{ServedAs}
 use Rattle.dr_serve.specs.Serving.{first_shown}

@@ -2,7 +2,7 @@ use Rattle.std.proofs.Common.{◌≡◌, ℕ, length, ap, subst, arith}
 use Rattle.dr_plan.specs.Planned.{plan_leaves}
 use Rattle.std.proofs.lemmas.List.{drop_all, length-map}
 use Rattle.dr_table.specs.Views.{table_view}
-use Rattle.dr_tablets.specs.Views.{all_left_view}
+use Rattle.dr_table.specs.LeftViews.{all_left_view}
 use Rattle.dr_serve.specs.Closing.{has_some}
 use Rattle.dr_serve.specs.Rounds.{HasRead}
 use Rattle.dr_serve.proofs.CloseLemmas.{none_closed, next_tablet, all_closed, when_done}

@@ -2,7 +2,7 @@ use Rattle.std.proofs.Common.{◌≡◌, List, Option, drop, map}
 use Rattle.dr_group.specs.declared.partial.Partial.{Partial}
 use Rattle.dr_partials.specs.Trees.{Tree}
 use Rattle.dr_table.specs.Views.{table_view}
-use Rattle.dr_tablets.specs.Views.{all_left_view}
+use Rattle.dr_table.specs.LeftViews.{all_left_view}
 use Rattle.dr_serve.specs.Closing.{HasFound, HasClosed, has_some}
 use Rattle.dr_serve.specs.Links.{Worked}
 use Rattle.dr_serve.proofs.closing.close.Given as goal

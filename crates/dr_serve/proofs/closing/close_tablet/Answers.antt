@@ -1,6 +1,6 @@
 use Rattle.std.proofs.Common.{sym, ◌∙◌}
 use Rattle.dr_table.specs.Views.{table_view}
-use Rattle.dr_tablets.specs.Views.{all_left_view}
+use Rattle.dr_table.specs.LeftViews.{all_left_view}
 use Rattle.dr_serve.proofs.CloseLemmas.{answered_closed, can_keep, scanned_closed, where_both}
 use Rattle.dr_serve.proofs.closing.close_tablet.Goals as goal
 

@@ -2,7 +2,7 @@ use Rattle.std.proofs.Common.{◌∷◌, [], ap, ap₂, sym, ◌∙◌, ◌++◌
 use Rattle.std.proofs.lemmas.List.{map-append}
 use Rattle.dr_table.specs.Views.{table_view}
 use Rattle.dr_serve.specs.Working.{directories_of}
-use Rattle.dr_tablets.proofs.TableLemmas.{tablets_next}
+use Rattle.dr_scan.proofs.TableLemmas.{tablets_next}
 use Rattle.dr_serve.proofs.job.job_of.Goals as goal
 
 pub tablets-preserved : goal.tablets-preserved

@@ -3,7 +3,7 @@ use Rattle.std.proofs.lemmas.List.{map-append}
 use Rattle.dr_table.specs.Views.{table_view}
 use Rattle.dr_reading.specs.Scan.{Copy}
 use Rattle.dr_serve.specs.Working.{directories_of}
-use Rattle.dr_tablets.proofs.CopyLemmas.{copies_next}
+use Rattle.dr_scan.proofs.CopyLemmas.{copies_next}
 use Rattle.dr_serve.proofs.job.leaves_of.Goals as goal
 
 pub copies-preserved : goal.copies-preserved

@@ -3,7 +3,7 @@ use Rattle.dr_dispatch.specs.Job.{Job}
 use Rattle.dr_dispatch.specs.History.{is_history}
 use Rattle.dr_outside.specs.Link.{Files}
 use Rattle.dr_table.specs.Views.{table_view}
-use Rattle.dr_tablets.specs.Views.{all_left_view}
+use Rattle.dr_table.specs.LeftViews.{all_left_view}
 use Rattle.dr_tree.specs.Views.{tree_view}
 use Rattle.dr_serve.specs.Working.{TakesFrom, table_job}
 use Rattle.dr_serve.proofs.ServingLemmas.{first_worked, closed_after, history_is}

@@ -1,6 +1,6 @@
 use Rattle.std.proofs.Common.{string_bytes, map, take, subst}
 use Rattle.dr_table.specs.Views.{table_view}
-use Rattle.dr_tablets.specs.Views.{all_left_view}
+use Rattle.dr_table.specs.LeftViews.{all_left_view}
 use Rattle.dr_serve.specs.Serving.{first_shown}
 use Rattle.dr_serve.specs.Answers.{AnsweredAs}
 use Rattle.dr_serve.proofs.AskLemmas.{answer_is, steady_leaves_none}

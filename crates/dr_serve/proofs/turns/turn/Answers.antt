@@ -9,8 +9,8 @@ use Rattle.dr_group.specs.Partials.{partial_view}
 use Rattle.dr_plan.specs.Planned.{plan_leaves}
 use Rattle.dr_reading.specs.Left.{IsCauseAt}
 use Rattle.dr_table.specs.Views.{table_view}
-use Rattle.dr_tablets.specs.FileRecords.{IsFaultOf}
-use Rattle.dr_tablets.proofs.CopyLemmas.{copy_cause}
+use Rattle.dr_scan.specs.FileRecords.{IsFaultOf}
+use Rattle.dr_scan.proofs.CopyLemmas.{copy_cause}
 use Rattle.dr_scan.proofs.TabletLemmas.{no_memory}
 use Rattle.dr_serve.specs.Working.{hand_path, IsRisenFor}
 use Rattle.dr_serve.proofs.TruthLemmas.{true_at_copy}

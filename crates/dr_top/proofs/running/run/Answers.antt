@@ -1,8 +1,8 @@
 use Rattle.std.proofs.Common.{◌≡◌, refl, ap, subst, ◌∙◌, map, string_bytes, List, ℕ}
 use Rattle.dr_outside.specs.Sink.{AddedWhole, AddedFront}
 use Rattle.dr_reading.specs.LeftText.{left_text}
-use Rattle.dr_tablets.specs.Views.{all_left_view}
-use Rattle.dr_tablets.specs.declared.left.LeftTablet.{LeftTablet}
+use Rattle.dr_table.specs.LeftViews.{all_left_view}
+use Rattle.dr_table.specs.declared.left.LeftTablet.{LeftTablet}
 use Rattle.dr_nested.specs.SchemaView.{schema_view}
 use Rattle.dr_words.specs.Words.{meant}
 use Rattle.dr_top.specs.Printed.{printed}

@@ -11,7 +11,7 @@ use Rattle.dr_file.specs.OpenedFiles.{IsColumnFault, path_of}
 use Rattle.dr_file.specs.Streams.{StreamGoesOn, Fills, left_of}
 use Rattle.dr_file.specs.declared.opened.Opened.{Opened}
 use Rattle.dr_file.proofs.LeavingLemmas.{same_fault_leaves, value_leaves}
-use Rattle.dr_tablets.proofs.ColumnsLemmas.{err_is}
+use Rattle.dr_scan.proofs.ColumnsLemmas.{err_is}
 use Rattle.dr_scan.proofs.StreamLemmas.{refilled}
 use Rattle.dr_scan.proofs.leaf_stream.LeafStream.refill.Goals as goal
 

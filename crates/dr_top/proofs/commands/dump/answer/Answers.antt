@@ -3,9 +3,9 @@ use Rattle.dr_nested.specs.declared.path.Path.{Path}
 use Rattle.dr_nested.specs.PathView.{path_view}
 use Rattle.dr_table.specs.Views.{table_view}
 use Rattle.dr_commands.specs.Dump.{dump_meaning, dump_view}
-use Rattle.dr_tablets.proofs.LeafLemmas.{named_are_leaves}
-use Rattle.dr_tablets.specs.Tablets.{LeavesTablets}
-use Rattle.dr_tablets.specs.Views.{all_left_view}
+use Rattle.dr_scan.proofs.UsedLeaves.{named_are_leaves}
+use Rattle.dr_dump.specs.Dumps.{LeavesTablets}
+use Rattle.dr_table.specs.LeftViews.{all_left_view}
 use Rattle.dr_dump.specs.Dumps.{AreLinesOf}
 use Rattle.dr_dump.specs.Answers.{WhereLines, WhereLeft}
 use Rattle.dr_top.specs.World.{outcome_on}

@@ -2,7 +2,7 @@ use Rattle.std.proofs.Common.{◌<◌, ◌*◌, ◌-◌, subst, string_bytes, ma
 use Rattle.dr_meaning.specs.QueryLeaves.{query_leaves}
 use Rattle.dr_table.specs.Views.{table_view}
 use Rattle.dr_reading.specs.Scan.{tablets_of}
-use Rattle.dr_tablets.specs.Views.{all_left_view}
+use Rattle.dr_table.specs.LeftViews.{all_left_view}
 use Rattle.dr_serve.specs.Serving.{IsShare, first_shown}
 use Rattle.dr_serve.specs.Counted.{AreLeftOf}
 use Rattle.dr_commands.specs.Query.{query_meaning, query_view}
