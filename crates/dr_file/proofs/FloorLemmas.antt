@@ -1,10 +1,11 @@
 -- Which levels may follow one another.
-use Rattle.std.proofs.Common.{◌≡◌, ℕ, zero, suc, ◌+◌, List, [], ◌∷◌, length, get_or, refl, sym, ap, ◌∙◌, arith}
-use Rattle.std.specs.Prelude.{None}
+use Rattle.std.proofs.Common.{◌≡◌, ℕ, zero, suc, ◌+◌, ◌-◌, List, [], ◌∷◌, length, get_or, refl, sym, ap, ◌∙◌, arith}
+use Rattle.std.proofs.lemmas.Bool.{ne_eqb}
+use Rattle.std.specs.Prelude.{None, Bool, false, ◌==◌, ◌&&◌, ◌||◌, nat_le}
 use Rattle.dr_meaning.specs.Schema.{Repetition, required, optional, repeated, definition_count, repetition_count}
 use Rattle.dr_meaning.specs.Path.{Step, max_repetition, max_definition}
 use Rattle.dr_meaning.specs.Column.{Triplet, triplet}
-use Rattle.dr_meaning.specs.OneColumn.{past_field, level_inside, all_follow}
+use Rattle.dr_meaning.specs.OneColumn.{past_field, level_inside, may_follow, all_follow}
 use Rattle.dr_file.specs.Floors.{with_floor, floors_of}
 
 -- ---- floors
@@ -51,3 +52,11 @@ floor_count (s ∷ p) n = let m : ℕ = n + definition_count s.repetition in wit
 pub follow_by_level : (p : List Step) (t : Triplet) (ts : List Triplet) → all_follow p t ts ≡ all_follow p (triplet 0 t.definition None) ts
 follow_by_level p t [] = refl
 follow_by_level p t (u ∷ us) = refl
+
+-- a triplet may follow one of this definition level where it begins a row, or both have its floor at least
+pub follow_tested : (p : List Step) (before definition rep floor : ℕ) → floor ≡ level_inside p (rep - 1) → ((rep == 0) || (nat_le floor before && nat_le floor definition)) ≡ may_follow p before definition rep
+follow_tested p before definition zero floor e = refl
+follow_tested p before definition (suc j) floor e =
+    let k : suc j - 1 ≡ j = omega arith in
+    let n : (suc j == 0) ≡ false = ne_eqb (suc j) 0 (λ z. absurd (omega (arith, z))) in
+    ap (λ (b : Bool). b || (nat_le floor before && nat_le floor definition)) n ∙ ap (λ (n : ℕ). nat_le n before && nat_le n definition) (e ∙ ap (level_inside p) k)

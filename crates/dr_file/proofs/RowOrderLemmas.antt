@@ -1,15 +1,16 @@
 -- Triplets of rows, a piece at a time.
-use Rattle.std.proofs.Common.{◌≡◌, ℕ, zero, suc, ◌+◌, ◌≤◌, ◌<◌, List, [], ◌∷◌, ◌++◌, map, drop, length, get_or, Bool, true, false, refl, sym, ap, subst, ◌∙◌, append_assoc, arith}
+use Rattle.std.proofs.Common.{◌≡◌, ℕ, zero, suc, ◌+◌, ◌≤◌, ◌<◌, ◌-◌, List, [], ◌∷◌, ◌++◌, map, take, drop, length, get_or, Bool, true, false, refl, sym, ap, subst, ◌∙◌, append_assoc, arith}
 use Rattle.std.specs.Prelude.{◌==◌, ◌&&◌, if◌then◌else◌, Option, Some, None}
+use mir.Val.{bool_byte}
 use Rattle.std.proofs.lemmas.Bool.{false≢true, eqb-true}
-use Rattle.std.proofs.lemmas.List.{append-nil, drop_more, drop_all}
+use Rattle.std.proofs.lemmas.List.{append-nil, drop_more, drop_all, take_all}
 use Rattle.dr_meaning.specs.Path.{Step}
 use Rattle.dr_meaning.specs.Column.{Triplet, triplet}
 use Rattle.dr_meaning.specs.OneColumn.{starts, may_follow, all_follow, is_in_order}
 use Rattle.dr_levels.specs.declared.triplet.Levels.{Levels}
 use Rattle.dr_file.specs.declared.row_order.RowOrder.{RowOrder}
 use Rattle.dr_file.specs.Floors.{bare}
-use Rattle.dr_file.specs.RowOrders.{last_from, last_level, are_rows, IsOrder}
+use Rattle.dr_file.specs.RowOrders.{last_from, last_level, are_rows, go_behind, IsOrder}
 use Rattle.dr_file.proofs.FloorLemmas.{follow_by_level}
 
 -- ---- triplets behind triplets
@@ -28,11 +29,6 @@ follow_append p t (u ∷ ts) us =
     let m : Bool = may_follow p t.definition u.definition u.repetition in
     ap (λ b. m && b) (follow_append p u ts us) ∙ and_assoc m (all_follow p u ts) (all_follow p (triplet 0 (last_from u.definition ts) None) us)
 
--- whether triplets stand where they may behind those whose last has this definition level
-abbrev go_behind : List Step → Option ℕ → List Triplet → Bool
-go_behind p None us = is_in_order p us
-go_behind p (Some d) us = all_follow p (triplet 0 d None) us
-
 order_append : (p : List Step) (ts us : List Triplet) → is_in_order p ts ≡ true → is_in_order p (ts ++ us) ≡ go_behind p (last_level ts) us
 order_append p [] us h = refl
 order_append p (t ∷ ts) us h =
@@ -40,56 +36,62 @@ order_append p (t ∷ ts) us h =
     ap (λ x. b && x) (follow_append p t ts us)
     ∙ (and_assoc b (all_follow p t ts) (all_follow p (triplet 0 (last_from t.definition ts) None) us) ∙ ap (λ x. x && all_follow p (triplet 0 (last_from t.definition ts) None) us) h)
 
-last_append : (ts : List Triplet) (u : Triplet) → last_level (ts ++ (u ∷ [])) ≡ Some u.definition
-last_append [] u = refl
-last_append (t ∷ ts) u = ap (λ d. Some d) (from t.definition ts)
+same_number : (a b : ℕ) → Some a ≡ Some b → a ≡ b
+same_number a b e = cc
+
+-- the last of more triplets
+last_behind : (ts us : List Triplet) (d : ℕ) → last_level us ≡ Some d → last_level (ts ++ us) ≡ Some d
+last_behind [] us d h = h
+last_behind (t ∷ ts) us d h = ap (λ (n : ℕ). Some n) (from t.definition ts us h)
   where
-    from : (d : ℕ) (vs : List Triplet) → last_from d (vs ++ (u ∷ [])) ≡ u.definition
-    from d [] = refl
-    from d (v ∷ vs) = from v.definition vs
+    from : (n : ℕ) (vs us : List Triplet) → last_level us ≡ Some d → last_from n (vs ++ us) ≡ d
+    from n [] [] e = absurd (cc)
+    from n [] (u ∷ us) e = same_number (last_from u.definition us) d e
+    from n (v ∷ vs) us e = from v.definition vs us e
 
--- ---- one triplet
+-- ---- which may go on
 
-not_zero : (k : ℕ) → (k ≡ 0 → ⊥) → (k == 0) ≡ false
-not_zero k w = by (k == 0) refl
+none_left : (p : List Step) (x : Option ℕ) → go_behind p x [] ≡ true
+none_left p None = refl
+none_left p (Some d) = refl
+
+-- the first begins a row where none came
+pub first_begins : (p : List Step) (x : Option ℕ) (t : Levels) (ls : List Levels) (b : Bool) → x ≡ None → b ≡ all_follow p (triplet 0 t.definition None) (map bare ls)
+    → ((t.repetition == 0) && b) ≡ go_behind p x (map bare (t ∷ ls))
+first_begins p x t ls b e h = ap (λ (c : Bool). (t.repetition == 0) && c) (h ∙ sym (follow_by_level p (bare t) (map bare ls))) ∙ ap (λ (y : Option ℕ). go_behind p y (map bare (t ∷ ls))) (sym e)
+
+-- the definition level of the last of some
+pub last_there : (ls : List Levels) (d : Levels) → 0 < length ls → last_level (map bare ls) ≡ Some (get_or ls (length ls - 1) d).definition
+last_there [] d h = absurd (omega (arith, h))
+last_there (l ∷ ls) d h = ap (λ (n : ℕ). Some n) (from l ls) ∙ ap (λ (i : ℕ). Some (get_or (l ∷ ls) i d).definition) (omega arith)
   where
-    by : (x : Bool) → (k == 0) ≡ x → x ≡ false
-    by false e = refl
-    by true e = absurd (w (eqb-true k 0 e))
+    from : (l : Levels) (ls : List Levels) → last_from l.definition (map bare ls) ≡ (get_or (l ∷ ls) (length ls) d).definition
+    from l [] = refl
+    from l (m ∷ ls) = from m ls
 
--- one that begins a row
-pub begins_row : (p : List Step) (rows : ℕ) (ts : List Triplet) (o : RowOrder) (next : Levels) → IsOrder p rows ts o → next.repetition ≡ 0 → 0 < o.rows
-    → (o′ : RowOrder) → o′.rows + 1 ≡ o.rows → o′.last ≡ Some next.definition → IsOrder p rows (ts ++ (bare next ∷ [])) o′
-begins_row p rows ts o next h z w o′ n l =
-    record {
-      order = order_append p ts (bare next ∷ []) h.order ∙ by (last_level ts);
-      begun = omega (arith, starts_append ts (bare next ∷ []), one, h.begun, n);
-      last = l ∙ sym (last_append ts (bare next));
-    }
-  where
-    one : starts (bare next ∷ []) ≡ 1
-    one = ap (λ k. (if k == 0 then 1 else 0) + 0) z
+-- ---- triplets that go on
 
-    by : (d : Option ℕ) → go_behind p d (bare next ∷ []) ≡ true
-    by None = ap (λ k. (k == 0) && true) z
-    by (Some d) = ap (λ k. may_follow p d next.definition k && true) z
+pub none_came : (p : List Step) (rows : ℕ) (ts : List Triplet) (ls : List Levels) (o : RowOrder) → length ls ≡ 0 → IsOrder p rows ts o → IsOrder p rows (ts ++ map bare ls) o
+none_came p rows ts [] o e h = subst (λ (xs : List Triplet). IsOrder p rows xs o) (sym (append-nil ts)) h
+none_came p rows ts (l ∷ ls) o e h = absurd (omega (arith, e))
 
--- one that doesn't
-pub goes_on : (p : List Step) (rows d : ℕ) (ts : List Triplet) (o : RowOrder) (next : Levels) → IsOrder p rows ts o → (next.repetition ≡ 0 → ⊥) → o.last ≡ Some d → may_follow p d next.definition next.repetition ≡ true
-    → (o′ : RowOrder) → o′.rows ≡ o.rows → o′.last ≡ Some next.definition → IsOrder p rows (ts ++ (bare next ∷ [])) o′
-goes_on p rows d ts o next h z e m o′ n l =
-    record {
-      order = order_append p ts (bare next ∷ []) h.order ∙ (ap (λ x. go_behind p x (bare next ∷ [])) (sym h.last ∙ e) ∙ ap (λ b. b && true) m);
-      begun = omega (arith, starts_append ts (bare next ∷ []), none next.repetition z, h.begun, n);
-      last = l ∙ sym (last_append ts (bare next));
-    }
-  where
-    none : (k : ℕ) → (k ≡ 0 → ⊥) → ((if k == 0 then 1 else 0) + 0) ≡ 0
-    none k w = ap (λ b. (if b then 1 else 0) + 0) (not_zero k w)
+pub all_came : (p : List Step) (rows d : ℕ) (ts us : List Triplet) (o new : RowOrder) → IsOrder p rows ts o → go_behind p o.last us ≡ true → starts us + new.rows ≡ o.rows → last_level us ≡ Some d → new.last ≡ Some d
+    → IsOrder p rows (ts ++ us) new
+all_came p rows d ts us o new h m n l e = record {
+  order = order_append p ts us h.order ∙ (ap (λ (x : Option ℕ). go_behind p x us) (sym h.last) ∙ m);
+  begun = omega (arith, starts_append ts us, h.begun, n);
+  last = e ∙ sym (last_behind ts us d l);
+}
+
+-- ---- triplets that don't
 
 and_none : (a b : Bool) → a ≡ false → (a && b) ≡ false
 and_none true b e = absurd (false≢true (sym e))
 and_none false b e = refl
+
+and_right : (a b : Bool) → b ≡ false → (a && b) ≡ false
+and_right true b e = e
+and_right false b e = refl
 
 not_equal : (a b : ℕ) → b < a → (a == b) ≡ false
 not_equal a b h = by (a == b) refl
@@ -98,65 +100,68 @@ not_equal a b h = by (a == b) refl
     by false e = refl
     by true e = absurd (omega (arith, h, eqb-true a b e))
 
-and_right : (a b : Bool) → b ≡ false → (a && b) ≡ false
-and_right true b e = e
-and_right false b e = refl
+stuck_behind : (p : List Step) (x : Option ℕ) (us more : List Triplet) → go_behind p x us ≡ false → go_behind p x (us ++ more) ≡ false
+stuck_behind p None [] more h = absurd (false≢true (sym h))
+stuck_behind p None (u ∷ us) more h =
+    let b : Bool = u.repetition == 0 in
+    let rest : Bool = all_follow p (triplet 0 (last_from u.definition us) None) more in
+    ap (λ (c : Bool). b && c) (follow_append p u us more) ∙ (and_assoc b (all_follow p u us) rest ∙ and_none (b && all_follow p u us) rest h)
+stuck_behind p (Some d) us more h = follow_append p (triplet 0 d None) us more ∙ and_none (all_follow p (triplet 0 d None) us) _ h
 
--- one row too many
-pub too_many : (p : List Step) (rows : ℕ) (ts more : List Triplet) (o : RowOrder) (next : Levels) → IsOrder p rows ts o → next.repetition ≡ 0 → o.rows ≡ 0 → are_rows p rows (ts ++ (bare next ∷ more)) ≡ false
-too_many p rows ts more o next h z n =
-    let one : starts (bare next ∷ more) ≡ 1 + starts more = ap (λ k. (if k == 0 then 1 else 0) + starts more) z in
-    and_right _ _ (not_equal (starts (ts ++ (bare next ∷ more))) rows (omega (arith, starts_append ts (bare next ∷ more), one, h.begun, n)))
+-- they begin too many rows
+pub too_many : (p : List Step) (rows : ℕ) (ts us more : List Triplet) (o : RowOrder) → IsOrder p rows ts o → o.rows < starts us → are_rows p rows (ts ++ (us ++ more)) ≡ false
+too_many p rows ts us more o h n =
+    and_right _ _ (not_equal (starts (ts ++ (us ++ more))) rows (omega (arith, starts_append ts (us ++ more), starts_append us more, h.begun, n)))
 
--- none that begins a row came before
-pub none_before : (p : List Step) (rows : ℕ) (ts more : List Triplet) (o : RowOrder) (next : Levels) → IsOrder p rows ts o → (next.repetition ≡ 0 → ⊥) → o.last ≡ None → are_rows p rows (ts ++ (bare next ∷ more)) ≡ false
-none_before p rows ts more o next h z e =
-    and_none _ _ (order_append p ts (bare next ∷ more) h.order ∙ (ap (λ x. go_behind p x (bare next ∷ more)) (sym h.last ∙ e) ∙ and_none _ _ (not_zero next.repetition z)))
+-- one stands where it may not
+pub may_not : (p : List Step) (rows : ℕ) (ts us more : List Triplet) (o : RowOrder) → IsOrder p rows ts o → go_behind p o.last us ≡ false → are_rows p rows (ts ++ (us ++ more)) ≡ false
+may_not p rows ts us more o h m =
+    and_none _ _ (order_append p ts (us ++ more) h.order ∙ (ap (λ (x : Option ℕ). go_behind p x (us ++ more)) (sym h.last) ∙ stuck_behind p o.last us more m))
 
--- it may not follow the one before
-pub may_not : (p : List Step) (rows d : ℕ) (ts more : List Triplet) (o : RowOrder) (next : Levels) → IsOrder p rows ts o → o.last ≡ Some d → may_follow p d next.definition next.repetition ≡ false
-    → are_rows p rows (ts ++ (bare next ∷ more)) ≡ false
-may_not p rows d ts more o next h e m =
-    and_none _ _ (order_append p ts (bare next ∷ more) h.order ∙ (ap (λ x. go_behind p x (bare next ∷ more)) (sym h.last ∙ e) ∙ and_none _ _ m))
+-- ---- the loops over levels
 
--- ---- one after another
+-- one more follows the one before it
+pub follow_more : (p : List Step) (last : ℕ) (ls : List Levels) (i : ℕ) (d : Levels) (fits b : Bool) → i < length ls → b ≡ may_follow p last (get_or ls i d).definition (get_or ls i d).repetition
+    → (fits && all_follow p (triplet 0 last None) (map bare (drop i ls))) ≡ ((fits && b) && all_follow p (triplet 0 (get_or ls i d).definition None) (map bare (drop (i + 1) ls)))
+follow_more p last ls i d fits b w e =
+    let x : Levels = get_or ls i d in
+    let m : Bool = may_follow p last x.definition x.repetition in
+    let rest : Bool = all_follow p (triplet 0 x.definition None) (map bare (drop (i + 1) ls)) in
+    ap (λ (xs : List Levels). fits && all_follow p (triplet 0 last None) (map bare xs)) (drop_more ls i d w)
+    ∙ (ap (λ (c : Bool). fits && (m && c)) (follow_by_level p (bare x) (map bare (drop (i + 1) ls)))
+    ∙ (and_assoc fits m rest ∙ ap (λ (c : Bool). (fits && c) && rest) (sym e)))
 
--- the levels before an index came
-pub record Went (p : List Step) (rows : ℕ) (ts : List Triplet) (ls : List Levels) (i : ℕ) (o : RowOrder) : Type 0 where
-  pub done : List Triplet
-  pub order : IsOrder p rows (ts ++ done) o
-  pub rest : map bare ls ≡ done ++ map bare (drop i ls)
+pub all_followed : (p : List Step) (last : ℕ) (ls : List Levels) (i : ℕ) (fits : Bool) → length ls ≤ i → (fits && all_follow p (triplet 0 last None) (map bare (drop i ls))) ≡ fits
+all_followed p last ls i fits w = ap (λ (xs : List Levels). fits && all_follow p (triplet 0 last None) (map bare xs)) (drop_all i ls w) ∙ and_one fits
+  where
+    and_one : (a : Bool) → (a && true) ≡ a
+    and_one true = refl
+    and_one false = refl
 
-pub none_went : (p : List Step) (rows : ℕ) (ts : List Triplet) (ls : List Levels) (o : RowOrder) → IsOrder p rows ts o → Went p rows ts ls 0 o
-none_went p rows ts ls o h = record {
-  done = [];
-  order = subst (λ xs. IsOrder p rows xs o) (sym (append-nil ts)) h;
-  rest = refl;
-}
+-- one more is counted
+pub begun_more : (ls : List Levels) (i : ℕ) (d : Levels) → i < length ls → starts (map bare (take (i + 1) ls)) ≡ starts (map bare (take i ls)) + (if (get_or ls i d).repetition == 0 then 1 else 0)
+begun_more [] i d w = absurd (omega (arith, w))
+begun_more (l ∷ ls) zero d w = omega arith
+begun_more (l ∷ ls) (suc i) d w =
+    let n = begun_more ls i d (omega (arith, w)) in
+    let e : suc i + 1 ≡ suc (i + 1) = omega arith in
+    ap (λ (k : ℕ). starts (map bare (take k (l ∷ ls)))) e ∙ omega (arith, n)
 
-next_split : (ls : List Levels) (i : ℕ) (d : Levels) (done : List Triplet) → i < length ls → map bare ls ≡ done ++ map bare (drop i ls) → map bare ls ≡ done ++ (bare (get_or ls i d) ∷ map bare (drop (i + 1) ls))
-next_split ls i d done w e = e ∙ ap (λ xs. done ++ map bare xs) (drop_more ls i d w)
+pub all_begun : (ls : List Levels) (i : ℕ) → length ls ≤ i → starts (map bare (take i ls)) ≡ starts (map bare ls)
+all_begun ls i w = ap (λ (xs : List Levels). starts (map bare xs)) (take_all i ls w)
 
-pub one_went : (p : List Step) (rows : ℕ) (ts : List Triplet) (ls : List Levels) (i : ℕ) (d : Levels) (o o′ : RowOrder) → i < length ls → Went p rows ts ls i o
-    → ((us : List Triplet) → IsOrder p rows us o → IsOrder p rows (us ++ (bare (get_or ls i d) ∷ [])) o′) → Went p rows ts ls (i + 1) o′
-one_went p rows ts ls i d o o′ w h f =
-    let b : Triplet = bare (get_or ls i d) in
-    record {
-      done = h.done ++ (b ∷ []);
-      order = subst (λ xs. IsOrder p rows xs o′) (append_assoc ts h.done (b ∷ [])) (f (ts ++ h.done) h.order);
-      rest = next_split ls i d h.done w h.rest ∙ sym (append_assoc h.done (b ∷ []) (map bare (drop (i + 1) ls)));
-    }
+pub at_most_one : (b : Bool) → (if b then 1 else 0) ≤ 1
+at_most_one true = omega arith
+at_most_one false = omega arith
 
-pub all_went : (p : List Step) (rows : ℕ) (ts : List Triplet) (ls : List Levels) (i : ℕ) (o : RowOrder) → length ls ≤ i → Went p rows ts ls i o → IsOrder p rows (ts ++ map bare ls) o
-all_went p rows ts ls i o w h =
-    let e : map bare ls ≡ h.done = h.rest ∙ (ap (λ xs. h.done ++ map bare xs) (drop_all i ls w) ∙ append-nil h.done) in
-    subst (λ xs. IsOrder p rows (ts ++ xs) o) (sym e) h.order
+pub one_if : (b : Bool) → bool_byte b ≡ (if b then 1 else 0)
+one_if true = refl
+one_if false = refl
 
-pub stuck_at : (p : List Step) (rows : ℕ) (ts more : List Triplet) (ls : List Levels) (i : ℕ) (d : Levels) (o : RowOrder) → i < length ls → Went p rows ts ls i o
-    → ((us vs : List Triplet) → IsOrder p rows us o → are_rows p rows (us ++ (bare (get_or ls i d) ∷ vs)) ≡ false) → are_rows p rows (ts ++ (map bare ls ++ more)) ≡ false
-stuck_at p rows ts more ls i d o w h f =
-    let b : Triplet = bare (get_or ls i d) in
-    let rest : List Triplet = map bare (drop (i + 1) ls) in
-    let e : ts ++ (map bare ls ++ more) ≡ (ts ++ h.done) ++ (b ∷ (rest ++ more)) =
-    ap (λ xs. ts ++ (xs ++ more)) (next_split ls i d h.done w h.rest) ∙ (ap (λ xs. ts ++ xs) (append_assoc h.done (b ∷ rest) more) ∙ sym (append_assoc ts h.done (b ∷ (rest ++ more)))) in
-    ap (are_rows p rows) e ∙ f (ts ++ h.done) (rest ++ more) h.order
+-- there are some
+pub some_there : (n : ℕ) (b : Bool) → b ≡ (n == 0) → b ≡ false → 0 < n
+some_there zero b e f = absurd (false≢true (sym f ∙ e))
+some_there (suc n) b e f = omega arith
+
+pub none_there : (n : ℕ) (b : Bool) → b ≡ (n == 0) → b ≡ true → n ≡ 0
+none_there n b e f = eqb-true n 0 (sym e ∙ f)

@@ -18,11 +18,12 @@ pub(crate) struct Floors {
 }
 
 impl Floors {
-    ghost use Rattle.std.specs.Prelude.{List, map, IfOk};
+    ghost use Rattle.std.specs.Prelude.{List, map, None, IfOk};
+    ghost use Rattle.dr_meaning.specs.Column.{triplet};
     ghost use Rattle.dr_meaning.specs.Path.{Step as MeantStep, max_repetition, max_definition};
-    ghost use Rattle.dr_meaning.specs.OneColumn.{level_inside, may_follow};
+    ghost use Rattle.dr_meaning.specs.OneColumn.{level_inside, may_follow, all_follow};
     ghost use Rattle.dr_nested.specs.PathView.{step_view};
-    ghost use Rattle.dr_file.specs.Floors.{AreFloorsOf};
+    ghost use Rattle.dr_file.specs.Floors.{AreFloorsOf, bare};
 
     /// Those of a path of at most 32 steps.
     ///
@@ -63,6 +64,7 @@ impl Floors {
     }
 
     /// The definition level that an instance of the repeated field of this number has at least, counted from 0.
+    #[inline(always)]
     fn floor(&self, number: u8) -> u8
         ensures { (p : List MeantStep) → AreFloorsOf p self.now → result ≡ level_inside p number }
     {
@@ -73,14 +75,28 @@ impl Floors {
     }
 
     /// Whether these levels may follow those of a triplet of this definition level.
-    pub(crate) fn may_follow(&self, before: u8, levels: Levels) -> bool
+    #[inline(always)]
+    fn may_follow(&self, before: u8, levels: Levels) -> bool
         ensures { (p : List MeantStep) → AreFloorsOf p self.now → result
             ≡ may_follow p before levels.definition levels.repetition }
     {
-        if levels.repetition == 0 {
-            return true;
+        let floor = self.floor(levels.repetition.saturating_sub(1));
+        (levels.repetition == 0) | ((floor <= before) & (floor <= levels.definition))
+    }
+
+    /// Whether each of these levels may follow the one before it, the first a triplet of this definition level. All are
+    /// looked at.
+    pub(crate) fn all_follow(&self, before: u8, levels: &[Levels]) -> bool
+        ensures { (p : List MeantStep) → AreFloorsOf p self.now → result
+            ≡ all_follow p (triplet 0 before None) (map bare levels.now) }
+    {
+        let mut last = before;
+        let mut fits = true;
+        'levels: for at in 0..levels.len() {
+            let next = levels[at];
+            fits = fits & self.may_follow(last, next);
+            last = next.definition;
         }
-        let floor = self.floor(levels.repetition - 1);
-        floor <= before && floor <= levels.definition
+        fits
     }
 }

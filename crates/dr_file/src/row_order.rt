@@ -1,10 +1,11 @@
 //! Whether triplets that come a piece at a time are those of whole rows.
 
-ghost use Rattle.std.specs.Prelude.{◌≡◌, ◌==◌, ◌++◌, ◌∷◌, [], List, ℕ, map, true, false};
+ghost use Rattle.std.specs.Prelude.{◌≡◌, ◌==◌, ◌++◌, [], List, ℕ, map, true, false};
 ghost use Rattle.dr_meaning.specs.Path.{Step as MeantStep};
 ghost use Rattle.dr_meaning.specs.Column.{Triplet};
+ghost use Rattle.dr_meaning.specs.OneColumn.{starts};
 ghost use Rattle.dr_file.specs.Floors.{AreFloorsOf, bare};
-ghost use Rattle.dr_file.specs.RowOrders.{IsOrder, are_rows};
+ghost use Rattle.dr_file.specs.RowOrders.{IsOrder, are_rows, go_behind};
 
 use crate::floors::Floors;
 use dr_levels::Levels;
@@ -33,28 +34,19 @@ impl RowOrder {
         self.rows == 0
     }
 
-    /// Goes on by a triplet of these levels; false where no triplets of the rows go on so.
-    fn take(&mut self, floors: &Floors, next: Levels) -> bool
-        ensures on { (p : List MeantStep) (rows : ℕ) (ts : List Triplet) → AreFloorsOf p floors.now
-            → IsOrder p rows ts self.old → result ≡ true → IsOrder p rows (ts ++ bare next ∷ []) self.new }
-        ensures stuck { (p : List MeantStep) (rows : ℕ) (ts more : List Triplet) → AreFloorsOf p floors.now
-            → IsOrder p rows ts self.old → result ≡ false → are_rows p rows (ts ++ bare next ∷ more) ≡ false }
+    /// Whether triplets of these levels may stand behind those that came, whatever the rows.
+    fn may_go_on(self, floors: &Floors, levels: &[Levels]) -> bool
+        ensures { (p : List MeantStep) → AreFloorsOf p floors.now → result ≡ go_behind p self.last (map bare levels.now) }
     {
-        if next.repetition == 0 {
-            if self.rows == 0 {
-                return false;
-            }
-            self.rows -= 1;
-        } else {
-            let Some(last) = self.last else {
-                return false;
-            };
-            if !floors.may_follow(last, next) {
-                return false;
+        if let Some(before) = self.last {
+            return floors.all_follow(before, levels);
+        }
+        match levels {
+            [] => true,
+            [first, rest @ ..] => {
+                first.repetition == 0 && floors.all_follow(first.definition, rest)
             }
         }
-        self.last = Some(next.definition);
-        true
     }
 
     /// Goes on by triplets of these levels; false where no triplets of the rows go on so.
@@ -65,11 +57,29 @@ impl RowOrder {
             → IsOrder p rows ts self.old → result ≡ false
             → are_rows p rows (ts ++ (map bare levels.now ++ more)) ≡ false }
     {
-        'levels: for next in levels {
-            if !self.take(floors, *next) {
-                return false;
-            }
+        if levels.is_empty() {
+            return true;
         }
+        let begun = count_begun(levels);
+        if begun as u64 > self.rows {
+            return false;
+        }
+        if !self.may_go_on(floors, levels) {
+            return false;
+        }
+        self.rows -= begun as u64;
+        self.last = Some(levels[levels.len() - 1].definition);
         true
     }
+}
+
+/// How many of these levels begin a row.
+fn count_begun(levels: &[Levels]) -> usize
+    ensures { result ≡ starts (map bare levels.now) }
+{
+    let mut begun = 0;
+    'levels: for at in 0..levels.len() {
+        begun += usize::from(levels[at].repetition == 0);
+    }
+    begun
 }
