@@ -24,7 +24,8 @@ use Rattle.dr_rows_beside.specs.RecordRows.{IsBeside, AreBeside, rows_of}
 use Rattle.dr_rows_beside.specs.Sources.{AreReadBeside}
 use Rattle.dr_judging.specs.TestRows.{AnswersOfRecords}
 use Rattle.dr_rows_beside.proofs.RecordRowLemmas.{rows_of_records}
-use Rattle.dr_rows_beside.proofs.SlotLemmas.{EachSlot, first_slots, each_slot}
+use Rattle.dr_rows_beside.specs.Slots.{EachSlot}
+use Rattle.dr_rows_beside.proofs.SlotLemmas.{first_slots, each_slot}
 
 answers_mean : (ls : List Leaf) (t : Truth) (rs : List Row) (ms : List Node) → length rs ≡ length ms → truth_fits ls t ≡ true → list_all (are_typed ls) ms ≡ true → EachSlot ls (truth_leaves t) rs ms
     → map (holds_in t) rs ≡ map (λ (m : Node). is_true (evaluate (truth_view ls t) m)) ms

@@ -17,9 +17,10 @@ use Rattle.dr_rows_beside.specs.Rows.{Row, slot_at, in_slot}
 use Rattle.dr_rows_beside.specs.RecordRows.{rows_of}
 use Rattle.dr_rows_beside.specs.ExprRows.{value_in, ValuesOfRecords}
 use Rattle.dr_rows_beside.proofs.RecordRowLemmas.{rows_of_records}
-use Rattle.dr_rows_beside.proofs.SlotLemmas.{EachSlot, first_slots, each_slot}
+use Rattle.dr_rows_beside.specs.Slots.{EachSlot}
+use Rattle.dr_rows_beside.proofs.SlotLemmas.{first_slots, each_slot}
 
-values_mean : (ls : List Leaf) (e : Expr) (rs : List Row) (ms : List Node) → length rs ≡ length ms → expr_fits ls e ≡ true → list_all (are_typed ls) ms ≡ true → EachSlot ls (expr_leaves e) rs ms
+pub values_mean : (ls : List Leaf) (e : Expr) (rs : List Row) (ms : List Node) → length rs ≡ length ms → expr_fits ls e ≡ true → list_all (are_typed ls) ms ≡ true → EachSlot ls (expr_leaves e) rs ms
     → map (value_in e) rs ≡ map (evaluate (expr_view ls e)) ms
 values_mean ls e [] [] l f h s = refl
 values_mean ls e [] (m ∷ ms) l f h s = absurd (omega (arith, l))

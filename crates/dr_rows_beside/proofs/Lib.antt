@@ -12,5 +12,7 @@ pub mod SourceLemmas
 pub mod ReadingLemmas
 -- the values of an expression in rows of records
 pub mod ExprRowLemmas
+-- rows of which the bit is set
+pub mod PickedLemmas
 -- what the slots of rows hold
 pub mod SlotLemmas

@@ -16,6 +16,7 @@ use Rattle.dr_beside.specs.Chunks.{HasColumns}
 use Rattle.dr_rows_beside.specs.declared.source.Beside.{Beside}
 use Rattle.dr_rows_beside.specs.Rows.{Row, slot_at, in_slot, slots_view}
 use Rattle.dr_rows_beside.specs.RecordRows.{IsBeside, AreBeside, rows_of}
+use Rattle.dr_rows_beside.specs.Slots.{EachSlot}
 use Rattle.dr_rows_beside.specs.Sources.{AreReadBeside}
 use Rattle.dr_rows_beside.proofs.RecordRowLemmas.{rows_of_records}
 
@@ -28,11 +29,6 @@ pub slots_seen : (vs : List (Option ValueRef)) → slot_value vs ≡ slot_at (sl
 slots_seen vs = fun_ext (slot_seen vs)
 
 -- ---- in rows of records
-
--- in each row the slots of these leaves are their values in a node
-abbrev pub EachSlot : List Leaf → List ℕ → List Row → List Node → Type 0
-EachSlot ls [] rs ms = Unit {0}
-EachSlot ls (k ∷ ks) rs ms = (in_slot k rs ≡ map (value_at (path_of (slice_get ls k))) ms) × EachSlot ls ks rs ms
 
 pub first_slots : (ls : List Leaf) (ks : List ℕ) (r : Row) (rs : List Row) (m : Node) (ms : List Node) → EachSlot ls ks (r ∷ rs) (m ∷ ms) → AreRead ls ks (slot_at r.slots) m × EachSlot ls ks rs ms
 first_slots ls [] r rs m ms h = (tt, tt)

@@ -1,11 +1,12 @@
 -- The leaves that are read beside one.
-use Rattle.std.proofs.Common.{◌≡◌, ℕ, zero, suc, ◌+◌, ◌<◌, List, [], ◌∷◌, ◌++◌, map, length, take, drop, get_or, Bool, true, false, Some, inl, inr, refl, sym, ap, ◌∙◌, subst, true≢false, arith, add-one}
+use Rattle.std.proofs.Common.{◌≡◌, ℕ, zero, suc, ◌+◌, ◌<◌, max, List, [], ◌∷◌, ◌++◌, map, length, take, drop, get_or, Bool, true, false, Option, Some, None, inl, inr, refl, sym, ap, ◌∙◌, subst, true≢false, arith, add-one}
 use Rattle.std.specs.Prelude.{◌⊎◌, not, ◌||◌, ◌==◌, nat_lt, if◌then◌else◌}
 use Rattle.std.specs.List.{list_all, slice_get, slice_index_or}
 use Rattle.std.proofs.lemmas.Bool.{and_from, and_parts, eqb-true, eq-eqb, leb-true}
 use Rattle.dr_meaning.specs.Path.{Step, begins_with, same_path, chain_end, max_repetition}
 use Rattle.dr_meaning.specs.Column.{Triplet}
 use Rattle.dr_moves.specs.Selection.{all_differ}
+use Rattle.dr_scalar.specs.Leaves.{greater, greatest}
 use Rattle.dr_beside.specs.Neighbours.{shared, front}
 use Rattle.dr_beside.proofs.NeighbourLemmas.{and_comm, differ_at}
 use Rattle.dr_rows_beside.specs.declared.source.Beside.{Beside}

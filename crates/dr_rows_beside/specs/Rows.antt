@@ -56,6 +56,17 @@ is_fed ts n f = nat_lt f.leaf n && nat_le (goes f.depth ts) (length f.left)
 abbrev pub can_step : ℕ → ℕ → Follower → Bool
 can_step r n f = nat_lt f.leaf n && (not (nat_le r f.depth) || nat_lt 0 (length f.left))
 
+-- those of which the bit is set; where the bits end, all
+abbrev pub picked : {A : Type 0} → List Bool → List A → List A
+picked [] xs = xs
+picked (b ∷ bs) [] = []
+picked (b ∷ bs) (x ∷ xs) = if b then x ∷ picked bs xs else picked bs xs
+
+-- whether the first of some rows comes, by their bits, and the bits of the others
+abbrev pub IsFirstBit : List Bool → Bool → List Bool → Type 0
+IsFirstBit [] b rest = (b ≡ true) × (rest ≡ [])
+IsFirstBit (c ∷ bs) b rest = (b ≡ c) × (rest ≡ bs)
+
 -- ---- what code has of them
 
 abbrev pub follower_view : Place → Follower

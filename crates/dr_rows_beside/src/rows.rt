@@ -6,6 +6,7 @@ ghost use Rattle.dr_levels.specs.Views.{triplets_view};
 ghost use Rattle.dr_beside.specs.Neighbours.{column_at};
 ghost use Rattle.dr_rows_beside.specs.Places.{place_left};
 ghost use Rattle.dr_rows_beside.specs.Rows.{is_fed, can_step, stepped, put_next, put_each, follower_view, slots_view};
+ghost use Rattle.dr_rows_beside.specs.Rows.{IsFirstBit};
 
 use crate::place::Place;
 use crate::source::Source;
@@ -18,6 +19,8 @@ use std::alloc::Global;
 pub struct Rows<'r> {
     own: Place<'r>,
     beside: Vec<Place<'r>>,
+    /// Whether each row comes that isn't read yet; where they end, all do.
+    bits: &'r [bool],
     pub slots: Vec<Option<ValueRef<'r>>>,
     pub ghost own_slot: { own.leaf < length slots.items },
     pub ghost fed: { list_all (is_fed (place_left own) (length slots.items)) (map follower_view beside.items) ≡ true },
@@ -49,9 +52,20 @@ fn follow_each<'r>(beside: &mut [Place<'r>], repetition: u8, slots: &mut [Option
     }
 }
 
+/// Whether the first of some rows comes, by their bits, and the bits of the others.
+#[inline(always)]
+fn first_bit<'r>(bits: &'r [bool]) -> (bool, &'r [bool])
+    ensures { IsFirstBit bits.now result.0 (result.1).now }
+{
+    match bits {
+        [] => (true, bits),
+        [first, rest @ ..] => (*first, rest),
+    }
+}
+
 impl<'r> Rows<'r> {
-    ghost use Rattle.dr_rows_beside.specs.Rows.{source_view, run, NextRow};
-    ghost use Rattle.dr_rows_beside.specs.RowsView.{rows_view, LevelOfNext};
+    ghost use Rattle.dr_rows_beside.specs.Rows.{source_view, run, picked, NextRow};
+    ghost use Rattle.dr_rows_beside.specs.RowsView.{all_rows_view, rows_view};
 
     /// Before the first row of a source in some columns.
     ///
@@ -68,6 +82,25 @@ impl<'r> Rows<'r> {
             (map (source_view (map triplets_view columns.now)) ((source.now).beside).items)
             (replicate (length columns.now) None) (column_at (map triplets_view columns.now) (source.now).leaf)) }
     {
+        Rows::kept(alloc, source, columns, &[])
+    }
+
+    /// Before the first of those rows of which the bit is set.
+    ///
+    /// Errors: want of memory alone.
+    pub fn kept(
+        alloc: Global,
+        source: &Source,
+        columns: &[Triplets<'r>],
+        bits: &'r [bool],
+    ) -> Result<Rows<'r>, NoMemory>
+        requires leaf { (source.now).leaf < length columns.now }
+        requires fed { list_all (is_fed (column_at (map triplets_view columns.now) (source.now).leaf)
+            (length columns.now)) (map (source_view (map triplets_view columns.now)) ((source.now).beside).items) ≡ true }
+        ensures { IfOk result (λ r. rows_view r ≡ picked bits.now (run (source.now).leaf
+            (map (source_view (map triplets_view columns.now)) ((source.now).beside).items)
+            (replicate (length columns.now) None) (column_at (map triplets_view columns.now) (source.now).leaf))) }
+    {
         let mut slots: Vec<Option<ValueRef<'r>>> = Vec::new(alloc);
         slots.resize(columns.len(), None)?;
         let mut beside: Vec<Place<'r>> = Vec::with_capacity(alloc, source.beside.len())?;
@@ -77,22 +110,17 @@ impl<'r> Rows<'r> {
         Ok(Rows {
             own: Place::new(source.leaf, 0, columns),
             beside,
+            bits,
             slots,
         })
     }
 
-    /// The repetition level of the next row; none at the end.
+    /// Reads the next row, whether it comes or not; none at the end. Answers its repetition level.
     #[inline(always)]
-    pub fn peek(&self) -> Option<u8>
-        ensures { LevelOfNext result (rows_view self.now) }
-    {
-        self.own.peek()
-    }
-
-    /// The next row; none at the end. Answers its repetition level.
-    #[inline(always)]
-    pub fn next(&mut self) -> Option<u8>
-        ensures { NextRow (rows_view self.old) (rows_view self.new) (slots_view ((self.new).slots).items) result }
+    fn read(&mut self) -> Option<u8>
+        ensures row { NextRow (all_rows_view self.old) (all_rows_view self.new)
+            (slots_view ((self.new).slots).items) result }
+        ensures bits { (self.new).bits ≡ (self.old).bits }
     {
         match self.own.peek() {
             None => None,
@@ -107,5 +135,20 @@ impl<'r> Rows<'r> {
                 Some(repetition)
             }
         }
+    }
+
+    /// The next row that comes; none at the end. Answers its repetition level.
+    #[inline(always)]
+    pub fn next(&mut self) -> Option<u8>
+        ensures { NextRow (rows_view self.old) (rows_view self.new) (slots_view ((self.new).slots).items) result }
+    {
+        'rows: while let Some(repetition) = self.read() {
+            let (comes, rest) = first_bit(self.bits);
+            self.bits = rest;
+            if comes {
+                return Some(repetition);
+            }
+        }
+        None
     }
 }
