@@ -1,12 +1,12 @@
 -- Triplets of rows, a piece at a time.
 use Rattle.std.proofs.Common.{◌≡◌, ℕ, zero, suc, ◌+◌, ◌≤◌, ◌<◌, ◌-◌, List, [], ◌∷◌, ◌++◌, map, take, drop, length, get_or, Bool, true, false, refl, sym, ap, subst, ◌∙◌, append_assoc, arith}
-use Rattle.std.specs.Prelude.{◌==◌, ◌&&◌, if◌then◌else◌, Option, Some, None}
+use Rattle.std.specs.Prelude.{◌==◌, ◌&&◌, not, if◌then◌else◌, Option, Some, None}
 use mir.Val.{bool_byte}
 use Rattle.std.proofs.lemmas.Bool.{false≢true, eqb-true}
 use Rattle.std.proofs.lemmas.List.{append-nil, drop_more, drop_all, take_all}
 use Rattle.dr_meaning.specs.Path.{Step}
 use Rattle.dr_meaning.specs.Column.{Triplet, triplet}
-use Rattle.dr_meaning.specs.OneColumn.{starts, may_follow, all_follow, is_in_order}
+use Rattle.dr_meaning.specs.OneColumn.{starts, begins_record, may_follow, all_follow, is_in_order}
 use Rattle.dr_levels.specs.declared.triplet.Levels.{Levels}
 use Rattle.dr_file.specs.declared.row_order.RowOrder.{RowOrder}
 use Rattle.dr_file.specs.Floors.{bare}
@@ -51,14 +51,35 @@ last_behind (t ∷ ts) us d h = ap (λ (n : ℕ). Some n) (from t.definition ts 
 
 -- ---- which may go on
 
-none_left : (p : List Step) (x : Option ℕ) → go_behind p x [] ≡ true
-none_left p None = refl
-none_left p (Some d) = refl
+and_none : (a b : Bool) → a ≡ false → (a && b) ≡ false
+and_none true b e = absurd (false≢true (sym e))
+and_none false b e = refl
 
--- the first begins a row where none came
-pub first_begins : (p : List Step) (x : Option ℕ) (t : Levels) (ls : List Levels) (b : Bool) → x ≡ None → b ≡ all_follow p (triplet 0 t.definition None) (map bare ls)
-    → ((t.repetition == 0) && b) ≡ go_behind p x (map bare (t ∷ ls))
-first_begins p x t ls b e h = ap (λ (c : Bool). (t.repetition == 0) && c) (h ∙ sym (follow_by_level p (bare t) (map bare ls))) ∙ ap (λ (y : Option ℕ). go_behind p y (map bare (t ∷ ls))) (sym e)
+and_right : (a b : Bool) → b ≡ false → (a && b) ≡ false
+and_right true b e = e
+and_right false b e = refl
+
+not_equal : (a b : ℕ) → b < a → (a == b) ≡ false
+not_equal a b h = by (a == b) refl
+  where
+    by : (x : Bool) → (a == b) ≡ x → x ≡ false
+    by false e = refl
+    by true e = absurd (omega (arith, h, eqb-true a b e))
+
+-- the first begins a row where none came, and may follow any
+pub first_begins : (p : List Step) (us : List Triplet) → (all_follow p (triplet 0 0 None) us && begins_record us) ≡ is_in_order p us
+first_begins p [] = refl
+first_begins p (u ∷ us) = by u.repetition
+  where
+    and_one : (a : Bool) → (a && true) ≡ a
+    and_one true = refl
+    and_one false = refl
+
+    by : (r : ℕ) → ((may_follow p 0 u.definition r && all_follow p u us) && (r == 0)) ≡ ((r == 0) && all_follow p u us)
+    by zero = and_one (all_follow p u us)
+    by (suc j) =
+        let n : (suc j == 0) ≡ false = not_equal (suc j) 0 (omega arith) in
+        ap (λ (b : Bool). (may_follow p 0 u.definition (suc j) && all_follow p u us) && b) n ∙ (and_right _ false refl ∙ ap (λ (b : Bool). b && all_follow p u us) (sym n))
 
 -- the definition level of the last of some
 pub last_there : (ls : List Levels) (d : Levels) → 0 < length ls → last_level (map bare ls) ≡ Some (get_or ls (length ls - 1) d).definition
@@ -84,21 +105,6 @@ all_came p rows d ts us o new h m n l e = record {
 }
 
 -- ---- triplets that don't
-
-and_none : (a b : Bool) → a ≡ false → (a && b) ≡ false
-and_none true b e = absurd (false≢true (sym e))
-and_none false b e = refl
-
-and_right : (a b : Bool) → b ≡ false → (a && b) ≡ false
-and_right true b e = e
-and_right false b e = refl
-
-not_equal : (a b : ℕ) → b < a → (a == b) ≡ false
-not_equal a b h = by (a == b) refl
-  where
-    by : (x : Bool) → (a == b) ≡ x → x ≡ false
-    by false e = refl
-    by true e = absurd (omega (arith, h, eqb-true a b e))
 
 stuck_behind : (p : List Step) (x : Option ℕ) (us more : List Triplet) → go_behind p x us ≡ false → go_behind p x (us ++ more) ≡ false
 stuck_behind p None [] more h = absurd (false≢true (sym h))
@@ -165,3 +171,12 @@ some_there (suc n) b e f = omega arith
 
 pub none_there : (n : ℕ) (b : Bool) → b ≡ (n == 0) → b ≡ true → n ≡ 0
 none_there n b e f = eqb-true n 0 (sym e ∙ f)
+
+-- what isn't so
+pub is_not : (b : Bool) → not b ≡ true → b ≡ false
+is_not true e = absurd (false≢true e)
+is_not false e = refl
+
+pub isnt_not : (b : Bool) → not b ≡ false → b ≡ true
+isnt_not true e = refl
+isnt_not false e = absurd (false≢true (sym e))

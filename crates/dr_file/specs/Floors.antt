@@ -1,7 +1,9 @@
 -- The definition levels that the instances of a path's repeated fields have at least.
-use Rattle.std.specs.Prelude.{◌≡◌, ℕ, ◌+◌, List, [], ◌∷◌}
+use Rattle.std.specs.Prelude.{◌≡◌, ◌<◌, ℕ, zero, suc, ◌+◌, List, [], ◌∷◌}
+use Rattle.std.specs.List.{slice_index_or}
 use Rattle.dr_meaning.specs.Schema.{Repetition, required, optional, repeated, definition_count}
 use Rattle.dr_meaning.specs.Path.{Step, max_definition}
+use Rattle.dr_meaning.specs.OneColumn.{level_inside}
 use Rattle.dr_meaning.specs.Column.{Triplet, triplet}
 use Rattle.std.specs.Prelude.{None}
 use Rattle.dr_levels.specs.declared.triplet.Levels.{Levels}
@@ -29,3 +31,12 @@ bare l = triplet l.repetition l.definition None
 -- a triplet without its value
 abbrev pub strip : Triplet → Triplet
 strip t = triplet t.repetition t.definition None
+
+-- the definition level that the triplets have at least that a repetition level stands between
+abbrev pub least_of : List Step → ℕ → ℕ
+least_of p zero = 0
+least_of p (suc j) = level_inside p j
+
+-- these are they, of the repetition levels below 256
+abbrev pub AreLeastOf : List Step → List ℕ → Type 0
+AreLeastOf p ls = (r : ℕ) → r < 256 → slice_index_or ls r 0 ≡ least_of p r

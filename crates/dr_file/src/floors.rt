@@ -7,6 +7,13 @@ use dr_memory::NoMemory;
 use dr_nested::{Rep, Step};
 use std::alloc::Global;
 
+/// What is found of levels that follow a triplet: whether each may, and how many begin a row.
+#[derive(Clone, Copy)]
+pub(crate) struct Following {
+    pub(crate) fits: bool,
+    pub(crate) begun: usize,
+}
+
 /// For each repeated field on a leaf's path, outermost first, the definition level that its instances have at least;
 /// and the leaf's greatest definition level.
 #[derive(Drop)]
@@ -21,9 +28,9 @@ impl Floors {
     ghost use Rattle.std.specs.Prelude.{List, map, None, IfOk};
     ghost use Rattle.dr_meaning.specs.Column.{triplet};
     ghost use Rattle.dr_meaning.specs.Path.{Step as MeantStep, max_repetition, max_definition};
-    ghost use Rattle.dr_meaning.specs.OneColumn.{level_inside, may_follow, all_follow};
+    ghost use Rattle.dr_meaning.specs.OneColumn.{starts, all_follow};
     ghost use Rattle.dr_nested.specs.PathView.{step_view};
-    ghost use Rattle.dr_file.specs.Floors.{AreFloorsOf, bare};
+    ghost use Rattle.dr_file.specs.Floors.{AreFloorsOf, AreLeastOf, least_of, bare};
 
     /// Those of a path of at most 32 steps.
     ///
@@ -63,40 +70,44 @@ impl Floors {
         self.greatest
     }
 
-    /// The definition level that an instance of the repeated field of this number has at least, counted from 0.
-    #[inline(always)]
-    fn floor(&self, number: u8) -> u8
-        ensures { (p : List MeantStep) → AreFloorsOf p self.now → result ≡ level_inside p number }
+    /// For each repetition level, the definition level that the triplets have at least that it stands between.
+    fn least_levels(&self) -> [u8; 256]
+        ensures { (p : List MeantStep) → AreFloorsOf p self.now → AreLeastOf p result }
     {
-        match self.levels.get(usize::from(number)) {
-            Some(level) => *level,
-            None => self.greatest,
+        let mut least = [self.greatest; 256];
+        least[0] = 0;
+        'levels: for index in 0..self.levels.len() {
+            least[index + 1] = self.levels[index];
         }
+        least
     }
 
-    /// Whether these levels may follow those of a triplet of this definition level.
+    /// The one of a repetition level.
     #[inline(always)]
-    fn may_follow(&self, before: u8, levels: Levels) -> bool
-        ensures { (p : List MeantStep) → AreFloorsOf p self.now → result
-            ≡ may_follow p before levels.definition levels.repetition }
+    fn least_at(least: &[u8; 256], repetition: u8) -> u8
+        ensures { (p : List MeantStep) → AreLeastOf p least.now → result ≡ least_of p repetition }
     {
-        let floor = self.floor(levels.repetition.saturating_sub(1));
-        (levels.repetition == 0) | ((floor <= before) & (floor <= levels.definition))
+        least[usize::from(repetition)]
     }
 
-    /// Whether each of these levels may follow the one before it, the first a triplet of this definition level. All are
-    /// looked at.
-    pub(crate) fn all_follow(&self, before: u8, levels: &[Levels]) -> bool
-        ensures { (p : List MeantStep) → AreFloorsOf p self.now → result
+    /// Whether each of these levels may follow the one before it, the first a triplet of this definition level, and how
+    /// many begin a row. All are looked at.
+    pub(crate) fn follow(&self, before: u8, levels: &[Levels]) -> Following
+        ensures fits { (p : List MeantStep) → AreFloorsOf p self.now → result.fits
             ≡ all_follow p (triplet 0 before None) (map bare levels.now) }
+        ensures begun { result.begun ≡ starts (map bare levels.now) }
     {
+        let least = self.least_levels();
         let mut last = before;
         let mut fits = true;
+        let mut begun = 0;
         'levels: for at in 0..levels.len() {
             let next = levels[at];
-            fits = fits & self.may_follow(last, next);
+            let floor = Floors::least_at(&least, next.repetition);
+            fits = fits & ((floor <= last) & (floor <= next.definition));
+            begun += usize::from(next.repetition == 0);
             last = next.definition;
         }
-        fits
+        Following { fits, begun }
     }
 }

@@ -3,11 +3,11 @@
 ghost use Rattle.std.specs.Prelude.{◌≡◌, ◌==◌, ◌++◌, [], List, ℕ, map, true, false};
 ghost use Rattle.dr_meaning.specs.Path.{Step as MeantStep};
 ghost use Rattle.dr_meaning.specs.Column.{Triplet};
-ghost use Rattle.dr_meaning.specs.OneColumn.{starts};
+ghost use Rattle.dr_meaning.specs.OneColumn.{starts, begins_record};
 ghost use Rattle.dr_file.specs.Floors.{AreFloorsOf, bare};
 ghost use Rattle.dr_file.specs.RowOrders.{IsOrder, are_rows, go_behind};
 
-use crate::floors::Floors;
+use crate::floors::{Floors, Following};
 use dr_levels::Levels;
 
 /// How far the triplets of some rows have come.
@@ -34,18 +34,19 @@ impl RowOrder {
         self.rows == 0
     }
 
-    /// Whether triplets of these levels may stand behind those that came, whatever the rows.
-    fn may_go_on(self, floors: &Floors, levels: &[Levels]) -> bool
-        ensures { (p : List MeantStep) → AreFloorsOf p floors.now → result ≡ go_behind p self.last (map bare levels.now) }
+    /// Whether triplets of these levels may stand behind those that came, whatever the rows, and how many begin a row.
+    fn look_at(self, floors: &Floors, levels: &[Levels]) -> Following
+        ensures fits { (p : List MeantStep) → AreFloorsOf p floors.now → result.fits
+            ≡ go_behind p self.last (map bare levels.now) }
+        ensures begun { result.begun ≡ starts (map bare levels.now) }
     {
         if let Some(before) = self.last {
-            return floors.all_follow(before, levels);
+            return floors.follow(before, levels);
         }
-        match levels {
-            [] => true,
-            [first, rest @ ..] => {
-                first.repetition == 0 && floors.all_follow(first.definition, rest)
-            }
+        let found = floors.follow(0, levels);
+        Following {
+            fits: found.fits & begin_row(levels),
+            begun: found.begun,
         }
     }
 
@@ -60,26 +61,25 @@ impl RowOrder {
         if levels.is_empty() {
             return true;
         }
-        let begun = count_begun(levels);
-        if begun as u64 > self.rows {
+        let found = self.look_at(floors, levels);
+        if found.begun as u64 > self.rows {
             return false;
         }
-        if !self.may_go_on(floors, levels) {
+        if !found.fits {
             return false;
         }
-        self.rows -= begun as u64;
+        self.rows -= found.begun as u64;
         self.last = Some(levels[levels.len() - 1].definition);
         true
     }
 }
 
-/// How many of these levels begin a row.
-fn count_begun(levels: &[Levels]) -> usize
-    ensures { result ≡ starts (map bare levels.now) }
+/// Whether the first of some levels, if there is one, begins a row.
+fn begin_row(levels: &[Levels]) -> bool
+    ensures { result ≡ begins_record (map bare levels.now) }
 {
-    let mut begun = 0;
-    'levels: for at in 0..levels.len() {
-        begun += usize::from(levels[at].repetition == 0);
+    match levels {
+        [] => true,
+        [first, ..] => first.repetition == 0,
     }
-    begun
 }

@@ -25,3 +25,5 @@ pub mod ValueSteps
 pub mod BitSteps
 -- hybrid data, a piece behind others
 pub mod RunSteps
+-- places of texts
+pub mod PlaceLemmas

@@ -1,8 +1,8 @@
 -- Levels side by side.
-use Rattle.std.proofs.Common.{◌≡◌, ℕ, ◌+◌, ◌<◌, List, [], ◌∷◌, ◌++◌, length, map, take, set, get_or, refl, sym, ap, ap₂, ◌∙◌, arith, suc, Bool, true, false, cond}
-use Rattle.std.specs.Prelude.{◌==◌, if◌then◌else◌, count_by}
-use Rattle.std.proofs.lemmas.List.{map_push, take_more_set, take_more}
-use Rattle.std.proofs.lemmas.List.Recursion.{is_count_by}
+use Rattle.std.proofs.Common.{◌≡◌, ℕ, ◌+◌, ◌<◌, List, [], ◌∷◌, ◌++◌, length, map, take, set, get_or, refl, sym, ap, ap₂, ◌∙◌, arith, zero, suc, ◌≤◌, Bool, true, false}
+use mir.Val.{bool_byte}
+use Rattle.std.specs.Prelude.{◌==◌, if◌then◌else◌}
+use Rattle.std.proofs.lemmas.List.{map_push, take_more_set, take_more, take_all}
 use Rattle.dr_formats.specs.Page.{count_equal}
 use Rattle.dr_levels.specs.declared.triplet.Levels.{Levels}
 use Rattle.dr_page.specs.Parts.{PairsOf}
@@ -16,9 +16,30 @@ pub fill_more : (rs ds : List ℕ) (out : List Levels) (i : ℕ) (l : Levels) �
     → PairsOf (take (i + 1) rs) (take (i + 1) ds) (take (i + 1) (set out i l))
 fill_more rs ds out i l h k m e f p = (filled (λ (x : Levels). x.repetition) out rs i l h k e p.0, filled (λ (x : Levels). x.definition) out ds i l h m f p.1)
 
-one_more : (b : Bool) (n : ℕ) → (if b then suc n else n) ≡ cond b (1 + n) n
-one_more true n = omega arith
-one_more false n = refl
+-- one more is counted
+pub count_more : (g : ℕ) (ls : List ℕ) (i : ℕ) → i < length ls → count_equal g (take (i + 1) ls) ≡ count_equal g (take i ls) + (if get_or ls i 0 == g then 1 else 0)
+count_more g [] i h = absurd (omega (arith, h))
+count_more g (l ∷ ls) zero h = first (l == g)
+  where
+    first : (b : Bool) → (if b then 1 else 0) ≡ 0 + (if b then 1 else 0)
+    first true = omega arith
+    first false = omega arith
+count_more g (l ∷ ls) (suc i) h =
+    let e : suc i + 1 ≡ suc (i + 1) = omega arith in
+    let one : ℕ = if get_or ls i 0 == g then 1 else 0 in
+    ap (λ (k : ℕ). count_equal g (take k (l ∷ ls))) e ∙ (ap (λ (n : ℕ). if l == g then suc n else n) (count_more g ls i (omega (arith, h))) ∙ grown (l == g) (count_equal g (take i ls)) one)
+  where
+    grown : (b : Bool) (m n : ℕ) → (if b then suc (m + n) else m + n) ≡ (if b then suc m else m) + n
+    grown true m n = omega arith
+    grown false m n = refl
 
-pub same_count : (g : ℕ) (ls : List ℕ) → count_by (λ l. l == g) ls ≡ count_equal g ls
-same_count g ls = sym (is_count_by (count_equal g) (λ l. l == g) refl (λ l ms. one_more (l == g) (count_equal g ms)) ls)
+pub all_counted : (g : ℕ) (ls : List ℕ) (i : ℕ) → length ls ≤ i → count_equal g (take i ls) ≡ count_equal g ls
+all_counted g ls i h = ap (count_equal g) (take_all i ls h)
+
+pub one_if : (b : Bool) → bool_byte b ≡ (if b then 1 else 0)
+one_if true = refl
+one_if false = refl
+
+pub at_most_one : (b : Bool) → (if b then 1 else 0) ≤ 1
+at_most_one true = omega arith
+at_most_one false = omega arith

@@ -7,12 +7,16 @@ ghost use Rattle.dr_page.specs.Parts.{PairsOf};
 use dr_levels::Levels;
 use dr_memory::NoMemory;
 
-/// How many levels are this one.
+/// How many levels are this one. All are looked at, many at once.
 #[inline(always)]
 pub(crate) fn count_equal(level: u8, levels: &[u8]) -> usize
     ensures { result ≡ count_equal level levels.now }
 {
-    levels.iter().filter(|other| **other == level).count()
+    let mut count = 0;
+    'levels: for index in 0..levels.len() {
+        count += usize::from(levels[index] == level);
+    }
+    count
 }
 
 /// Puts pairs of levels into the place of others.

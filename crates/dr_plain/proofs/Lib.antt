@@ -9,3 +9,5 @@ pub mod CountSteps
 -- a piece behind others
 pub mod PieceSteps
 pub mod ReaderSteps
+-- texts that are read many at once
+pub mod BatchSteps

@@ -6,6 +6,7 @@ mod picking;
 mod plain;
 mod plain_reader;
 mod reading;
+mod text_batch;
 mod texts;
 mod values;
 mod writing;

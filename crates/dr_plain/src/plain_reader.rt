@@ -8,6 +8,7 @@ ghost use Rattle.dr_plain.specs.declared.values.PlainFault.{PlainFault};
 ghost use Rattle.dr_plain.specs.Pieces.{HasGiven, GivesMore, GivesTexts, refused_of};
 
 use crate::reading::{append_int32s, append_int64s, bytes_of_bits, push_bits};
+use crate::text_batch::read_batch;
 use crate::texts::{append_texts, front_texts};
 use crate::values::{PlainFault, TextPlace};
 
@@ -150,6 +151,11 @@ impl PlainReader {
             return Err(fault);
         }
         let rest = self.rest(bytes);
+        if let Some(piece) = read_batch(rest, count, out) {
+            self.go_behind(bytes, rest, piece.len(), 1);
+            return Ok(piece);
+        }
+        out.clear();
         let piece = front_texts(rest, count);
         match append_texts(piece, count, out) {
             Ok(()) => {
