@@ -28,7 +28,7 @@ fn take_each_row<'a>(
     alloc: Global,
     aggregate: u32,
     expression: &'a Expr,
-    rows: &mut Rows<'a>,
+    rows: &mut Rows<'a, '_>,
     group: u32,
     groups: &mut GroupMap,
 ) -> Result<(), NoMemory>

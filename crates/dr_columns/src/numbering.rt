@@ -65,7 +65,7 @@ fn number_of<'a>(
 fn put_numbers<'r>(
     alloc: Global,
     keys: &[u32],
-    rows: &mut Rows<'r>,
+    rows: &mut Rows<'r, '_>,
     groups: &mut GroupMap,
     out: &mut Vec<u32>,
 ) -> Result<(), NoMemory>

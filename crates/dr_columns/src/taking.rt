@@ -185,7 +185,7 @@ pub(crate) fn take_values<'a>(
     alloc: Global,
     aggregate: u32,
     expression: &'a Expr,
-    rows: &mut Rows<'a>,
+    rows: &mut Rows<'a, '_>,
     numbers: &[u32],
     groups: &mut GroupMap,
 ) -> Result<(), NoMemory>

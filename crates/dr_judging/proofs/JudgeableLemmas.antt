@@ -18,7 +18,7 @@ use Rattle.dr_beside.specs.Spreading.{repetitions_of}
 use Rattle.dr_beside.proofs.FeedLemmas.{goes_on_by_each}
 use Rattle.dr_judging.specs.declared.judging.Test.{Test}
 use Rattle.dr_agreement.specs.Cuts.{begins}
-use Rattle.dr_judging.specs.Bits.{many}
+use Rattle.dr_judging.specs.Bits.{many, all_within}
 use Rattle.dr_rows_beside.specs.RecordRows.{AreBeside}
 use Rattle.dr_rows_beside.specs.Sources.{AreReadBeside, all_beside}
 use Rattle.dr_judging.specs.Judging.{CanAnswer, CanAnswerEach}
@@ -26,6 +26,7 @@ use Rattle.dr_judging.specs.Kept.{IsTestOf, AreTestsOf}
 use Rattle.dr_judging.specs.Keeps.{RecordsCanBeJudged}
 use Rattle.dr_rows_beside.proofs.RecordRowLemmas.{Known, known, rows_of_records}
 use Rattle.dr_rows_beside.proofs.SourceLemmas.{differ_both, sources_are_beside}
+use Rattle.dr_judging.proofs.KeptBitLemmas.{column_within}
 
 many_goes : (k : ℕ) (ts : List Triplet) → many k (repetitions_of ts) ≡ goes k ts
 many_goes k [] = refl
@@ -94,5 +95,6 @@ records_can_be_judged fs ls C n R k h f d v a few =
       others = each_can fs ls C n R h f d leaf v.path v.is_path k.others.items a;
       begins_there = ap (λ (ts : List Triplet). begins (repetitions_of ts)) (sym (x.col leaf v.path v.is_path)) ∙ begins_same (column v.path R)
           ∙ (column_rows fs v.path R (x.path leaf v.path v.is_path) h.0).1;
+      within = ap₂ (λ (d : ℕ) (ts : List Triplet). all_within d (repetitions_of ts)) v.deep (sym (x.col leaf v.path v.is_path)) ∙ column_within v.path R;
       few = few;
     }

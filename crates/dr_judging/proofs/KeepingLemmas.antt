@@ -74,7 +74,7 @@ levels_long ls rs e = sym (length-map ls (λ (l : Levels). l.repetition)) ∙ ap
 
 -- ---- bits that are put in place
 
-all_put : {A : Type 0} (n : ℕ) (xs ys : List A) → length xs ≡ n → take n (xs ++ ys) ≡ xs
+pub all_put : {A : Type 0} (n : ℕ) (xs ys : List A) → length xs ≡ n → take n (xs ++ ys) ≡ xs
 all_put zero [] ys e = refl
 all_put zero (x ∷ xs) ys e = absurd (omega (arith, e))
 all_put (suc n) [] ys e = absurd (omega (arith, e))

@@ -22,3 +22,13 @@ pub mod KeepsLemmas
 pub mod JudgeableLemmas
 -- bits at the greatest depth
 pub mod BottomLemmas
+-- bits that are spread over places
+pub mod SpreadBitLemmas
+-- how many repeated fields leaves have in common
+pub mod CommonLemmas
+-- the bits of instances
+pub mod KeptBitLemmas
+-- the rows that a condition keeps
+pub mod KeptRowLemmas
+-- the test of the last leaf
+pub mod LastTestLemmas

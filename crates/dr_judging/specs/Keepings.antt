@@ -7,6 +7,7 @@ use Rattle.dr_judging.specs.declared.judging.Test.{Test}
 use Rattle.dr_judging.specs.declared.keeping.Keeping.{Keeping}
 use Rattle.dr_agreement.specs.Cuts.{begins}
 use Rattle.dr_judging.specs.Answers.{holds_in}
+use Rattle.dr_judging.specs.Bits.{all_within}
 use Rattle.dr_rows_beside.specs.RecordRows.{rows_of}
 use Rattle.dr_judging.specs.Judging.{CanAnswer, CanAnswerEach, narrowed_by}
 
@@ -23,4 +24,5 @@ pub record CanJudge (C : List (List Triplet)) (k : Keeping) : Type 0 where
   pub own : CanAnswer C (levels_of C k.own) k.own
   pub others : CanAnswerEach C (levels_of C k.own) k.others.items
   pub begins_there : begins (levels_of C k.own) ≡ true
+  pub within : all_within k.own.depth (levels_of C k.own) ≡ true
   pub few : length k.above.items ≤ 256

@@ -13,9 +13,13 @@ pub mod TestRows
 pub mod Judging
 -- what a condition keeps
 pub mod Keepings
+-- which rows of a leaf a condition keeps
+pub mod KeptBits
 -- what the bits of a condition mean
 pub mod Kept
 -- how a condition is made ready
 pub mod Makings
 -- what a condition made ready keeps
 pub mod Keeps
+-- the rows that a condition keeps
+pub mod KeptRows

@@ -6,6 +6,7 @@ use Rattle.dr_plan.specs.declared.expression.Truth.{Truth}
 use Rattle.dr_scalar.specs.Leaves.{greatest, truth_leaves}
 use Rattle.dr_judging.specs.declared.judging.Test.{Test}
 use Rattle.dr_judging.specs.declared.keeping.Keeping.{Keeping}
+use Rattle.dr_judging.specs.KeptBits.{commons}
 use Rattle.dr_rows_beside.specs.Sources.{all_beside}
 
 -- those of some tests that read a leaf
@@ -49,5 +50,6 @@ pub record IsKeepingOf (F : List (List Step)) (ts : List Truth) (k : Keeping) : 
   pub own : k.own ≡ slice_index_or tests at k.own
   pub others : k.others.items ≡ remove tests at
   pub last : IsLast tests (length tests) at
+  pub commons_are : k.commons.items ≡ commons F k.own.source.leaf
   pub depths : length k.above.items ≡ k.own.depth
   pub few : length k.above.items ≤ 256

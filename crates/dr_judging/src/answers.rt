@@ -38,7 +38,7 @@ fn holds(alloc: Global, test: &Truth, row: &[Option<ValueRef<'_>>]) -> Result<bo
 pub(crate) fn put_truths(
     alloc: Global,
     test: &Truth,
-    rows: &mut Rows<'_>,
+    rows: &mut Rows<'_, '_>,
     out: &mut Vec<bool>,
 ) -> Result<(), NoMemory>
     requires room { vec_len out.old + length (rows_view rows.old) ≤ vec_capacity out.old }

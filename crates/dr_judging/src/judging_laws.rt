@@ -4,6 +4,7 @@ ghost use Rattle.dr_judging.specs.Bits.{GathersBits, GathersItself};
 ghost use Rattle.dr_judging.specs.TestRows.{AnswersOfRecords};
 ghost use Rattle.dr_judging.specs.Kept.{JudgedBits, JudgedRowsAreKept};
 ghost use Rattle.dr_judging.specs.Keeps.{KeepingHolds, RecordsCanBeJudged};
+ghost use Rattle.dr_judging.specs.KeptRows.{KeptRowsOfRecords, KeptRecordsAreCounted};
 
 /// The bits of each depth that are gathered are what the laws of columns side by side speak of.
 pub fn gathers_bits()
@@ -38,4 +39,14 @@ pub fn keeping_holds()
 /// The columns that records have can be judged.
 pub fn records_can_be_judged()
     ensures { RecordsCanBeJudged }
+{}
+
+/// The rows of a source whose bit is set hold the values of what the condition leaves of the records.
+pub fn kept_rows_of_records()
+    ensures { KeptRowsOfRecords }
+{}
+
+/// As many bits are set at depth 0 as records are left.
+pub fn kept_records_are_counted()
+    ensures { KeptRecordsAreCounted }
 {}

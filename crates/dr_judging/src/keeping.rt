@@ -1,17 +1,23 @@
 //! Which instances a condition keeps, by columns side by side.
 
-ghost use Rattle.std.specs.Prelude.{◌≡◌, ◌≤◌, length, map, true, IfOk};
+ghost use Rattle.std.specs.Prelude.{◌≡◌, ◌≤◌, ◌<◌, length, map, true, IfOk};
 ghost use Rattle.dr_levels.specs.Views.{triplets_view};
 ghost use Rattle.dr_agreement.specs.Cuts.{repetitions, begins};
-ghost use Rattle.dr_judging.specs.Judging.{AreGathered, CanAnswer, CanAnswerEach};
+ghost use Rattle.dr_nested.specs.PathView.{paths_view};
+ghost use Rattle.dr_judging.specs.Bits.{set_bits};
+ghost use Rattle.dr_judging.specs.Judging.{CanAnswer, CanAnswerEach};
 ghost use Rattle.dr_judging.specs.Keepings.{judged};
+ghost use Rattle.dr_judging.specs.KeptBits.{commons};
 ghost use Rattle.dr_beside.specs.Neighbours.{column_at};
 ghost use Rattle.dr_beside.specs.Spreading.{repetitions_of};
 
 use crate::answers::put_answers;
+use crate::bits::{count_set, spread};
 use crate::judging::{Test, gather_each, last_test, take_tests, tests_of};
+use dr_agreement::front_of;
 use dr_levels::{Levels, Triplets};
 use dr_memory::NoMemory;
+use dr_nested::Path;
 use dr_plan::Plan;
 use std::alloc::Global;
 
@@ -21,6 +27,8 @@ use std::alloc::Global;
 pub struct Keeping<'p> {
     own: Test<'p>,
     others: Vec<Test<'p>>,
+    /// How many repeated fields each of the plan's leaves has in common with the last leaf.
+    commons: Vec<u8>,
     /// For each depth above the last leaf's, whether each instance there is kept; where none is, its place in the
     /// column is kept or not.
     above: Vec<Vec<bool>>,
@@ -74,12 +82,27 @@ fn room_of(alloc: Global, depths: u8) -> Result<Vec<Vec<bool>>, NoMemory>
     Ok(room)
 }
 
+/// How many repeated fields each of some leaves has in common with one of them.
+///
+/// Errors: want of memory alone.
+fn commons_of(alloc: Global, leaves: &[Path], last: u32) -> Result<Vec<u8>, NoMemory>
+    requires { last < length leaves.now }
+    ensures { IfOk result (λ made. made.items ≡ commons (paths_view leaves.now) last) }
+{
+    let mut made: Vec<u8> = Vec::new(alloc);
+    'leaves: for leaf in 0..leaves.len() {
+        made.push(front_of(leaves, leaf, last as usize).repeated)?;
+    }
+    Ok(made)
+}
+
 impl<'p> Keeping<'p> {
-    ghost use Rattle.dr_judging.specs.Keepings.{CanJudge, levels_of};
+    ghost use Rattle.dr_judging.specs.Keepings.{CanJudge};
+    ghost use Rattle.dr_judging.specs.KeptBits.{HasJudged, kept_at, kept_bits, bits_of, common_at};
     ghost use Rattle.dr_judging.specs.declared.keeping.Keeping.{Keeping};
     ghost use Rattle.dr_judging.specs.Makings.{IsKeepingOf, reading};
-    ghost use Rattle.dr_nested.specs.PathView.{paths_view};
-    ghost use Rattle.std.specs.Prelude.{[], Ok, Some, None};
+    ghost use Rattle.std.specs.Prelude.{List, [], Ok, Some, None};
+    ghost use Rattle.dr_meaning.specs.Column.{Triplet};
 
     /// Of a plan's tests that read leaves; none without such.
     ///
@@ -95,10 +118,12 @@ impl<'p> Keeping<'p> {
         }
         let at = last_test(&tests);
         let own = tests.remove(at);
+        let commons = commons_of(alloc, &plan.leaves, own.source.leaf)?;
         let above = room_of(alloc, own.depth)?;
         Ok(Some(Keeping {
             own,
             others: tests,
+            commons,
             above,
             whole: Vec::new(alloc),
             answers: Vec::new(alloc),
@@ -109,15 +134,13 @@ impl<'p> Keeping<'p> {
     ///
     /// Errors: want of memory alone.
     pub fn judge(&mut self, alloc: Global, columns: &[Triplets<'_>]) -> Result<(), NoMemory>
-        requires { CanJudge (map triplets_view columns.now) self.old }
+        requires judged { CanJudge (map triplets_view columns.now) self.old }
+        requires deep { length ((self.old).above).items ≡ (self.old).own.depth }
         ensures own { (self.new).own ≡ (self.old).own }
         ensures others { ((self.new).others).items ≡ ((self.old).others).items }
-        ensures bits { IfOk result (λ done. ((self.new).whole).items
-            ≡ judged (map triplets_view columns.now) (self.old).own ((self.old).others).items) }
-        ensures above { IfOk result (λ done. AreGathered
-            (levels_of (map triplets_view columns.now) (self.old).own)
-            (judged (map triplets_view columns.now) (self.old).own ((self.old).others).items)
-            (length ((self.new).above).items) ((self.new).above).items) }
+        ensures commons { ((self.new).commons).items ≡ ((self.old).commons).items }
+        ensures depths { length ((self.new).above).items ≡ length ((self.old).above).items }
+        ensures judged { IfOk result (λ done. HasJudged (map triplets_view columns.now) self.new) }
     {
         let levels = columns[self.own.source.leaf as usize].levels();
         put_judged(
@@ -131,5 +154,49 @@ impl<'p> Keeping<'p> {
         )?;
         gather_each(levels, &self.whole, self.above.as_mut_slice())?;
         Ok(())
+    }
+
+    /// Whether each instance at a depth is kept.
+    fn bits(&self, depth: u8) -> &[bool]
+        ensures { result.now ≡ kept_at self.now depth }
+    {
+        let depth = usize::from(depth);
+        if depth < self.above.len() {
+            &self.above[depth]
+        } else {
+            &self.whole
+        }
+    }
+
+    /// Puts whether each row of a leaf is kept, by the columns that were judged.
+    ///
+    /// Errors: want of memory alone.
+    pub fn sift(
+        &self,
+        leaf: u32,
+        columns: &[Triplets<'_>],
+        out: &mut Vec<bool>,
+    ) -> Result<(), NoMemory>
+        requires leaf { leaf < length columns.now }
+        requires common { leaf < length ((self.now).commons).items }
+        requires judged { HasJudged (map triplets_view columns.now) self.now }
+        ensures { IfOk result (λ done. (out.new).items ≡ kept_bits (map triplets_view columns.now) (self.now).own
+            ((self.now).others).items (common_at self.now leaf) (column_at (map triplets_view columns.now) leaf)) }
+    {
+        let depth = self.commons[leaf as usize];
+        spread(
+            columns[leaf as usize].levels(),
+            depth,
+            self.bits(depth),
+            out,
+        )
+    }
+
+    /// How many records are kept of those that were judged.
+    pub fn records(&self) -> usize
+        ensures { (C : List (List Triplet)) → HasJudged C self.now
+            → result ≡ set_bits (bits_of C (self.now).own ((self.now).others).items 0) }
+    {
+        count_set(self.bits(0))
     }
 }

@@ -8,4 +8,5 @@ mod judging;
 pub mod judging_laws;
 mod keeping;
 
+pub use bits::count_set;
 pub use keeping::Keeping;

@@ -16,11 +16,11 @@ use std::alloc::Global;
 
 /// Rows, from the next one on, and the values of the last one.
 #[derive(Drop)]
-pub struct Rows<'r> {
+pub struct Rows<'r, 'b> {
     own: Place<'r>,
     beside: Vec<Place<'r>>,
     /// Whether each row comes that isn't read yet; where they end, all do.
-    bits: &'r [bool],
+    bits: &'b [bool],
     pub slots: Vec<Option<ValueRef<'r>>>,
     pub ghost own_slot: { own.leaf < length slots.items },
     pub ghost fed: { list_all (is_fed (place_left own) (length slots.items)) (map follower_view beside.items) ≡ true },
@@ -54,7 +54,7 @@ fn follow_each<'r>(beside: &mut [Place<'r>], repetition: u8, slots: &mut [Option
 
 /// Whether the first of some rows comes, by their bits, and the bits of the others.
 #[inline(always)]
-fn first_bit<'r>(bits: &'r [bool]) -> (bool, &'r [bool])
+fn first_bit<'b>(bits: &'b [bool]) -> (bool, &'b [bool])
     ensures { IsFirstBit bits.now result.0 (result.1).now }
 {
     match bits {
@@ -63,7 +63,7 @@ fn first_bit<'r>(bits: &'r [bool]) -> (bool, &'r [bool])
     }
 }
 
-impl<'r> Rows<'r> {
+impl<'r, 'b> Rows<'r, 'b> {
     ghost use Rattle.dr_rows_beside.specs.Rows.{source_view, run, picked, NextRow};
     ghost use Rattle.dr_rows_beside.specs.RowsView.{all_rows_view, rows_view};
 
@@ -74,7 +74,7 @@ impl<'r> Rows<'r> {
         alloc: Global,
         source: &Source,
         columns: &[Triplets<'r>],
-    ) -> Result<Rows<'r>, NoMemory>
+    ) -> Result<Rows<'r, 'b>, NoMemory>
         requires leaf { (source.now).leaf < length columns.now }
         requires fed { list_all (is_fed (column_at (map triplets_view columns.now) (source.now).leaf)
             (length columns.now)) (map (source_view (map triplets_view columns.now)) ((source.now).beside).items) ≡ true }
@@ -92,8 +92,8 @@ impl<'r> Rows<'r> {
         alloc: Global,
         source: &Source,
         columns: &[Triplets<'r>],
-        bits: &'r [bool],
-    ) -> Result<Rows<'r>, NoMemory>
+        bits: &'b [bool],
+    ) -> Result<Rows<'r, 'b>, NoMemory>
         requires leaf { (source.now).leaf < length columns.now }
         requires fed { list_all (is_fed (column_at (map triplets_view columns.now) (source.now).leaf)
             (length columns.now)) (map (source_view (map triplets_view columns.now)) ((source.now).beside).items) ≡ true }

@@ -1,7 +1,8 @@
 use Rattle.std.proofs.Common.{◌∙◌, refl, ap, List, ℕ, ◌++◌, length}
 use Rattle.dr_nested.specs.PathView.{paths_view}
 use Rattle.dr_scalar.specs.Leaves.{truth_leaves}
-use Rattle.dr_judging.proofs.MakingLemmas.{greatest_there, is_made}
+use Rattle.dr_rows_beside.proofs.SourceLemmas.{greatest_there}
+use Rattle.dr_judging.proofs.MakingLemmas.{is_made}
 use Rattle.dr_judging.proofs.judging.Test.of.Goals as goal
 
 pub front_of-whole-requires-clause-one : goal.front_of-whole-requires-clause-one
