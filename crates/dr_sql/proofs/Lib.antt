@@ -13,3 +13,5 @@ pub mod PrecedenceLemmas
 pub mod ReadLemmas
 -- what was read and is boxed
 pub mod BoxLemmas
+-- SELECTs over one another
+pub mod SelectLemmas

@@ -3,28 +3,22 @@ use Rattle.std.specs.Prelude.{◌≡◌, ℕ, suc, ◌+◌, ◌-◌, ◌<◌, Li
 use Rattle.std.proofs.Common.{refl, sym, ap, ap₂, ◌∙◌, subst}
 use Rattle.dr_meaning.specs.Tokens.{QueryToken, comma}
 use Rattle.dr_meaning.specs.Parse.{Unread, Parsed, got, Production, give, goes_on, ◌>>=◌, next_is, either, is_the_sign, any_token, further_elements, elements}
-use Rattle.dr_meaning.specs.Parse.{begins_item, item, items, begins_key, path_names, keys, nested, expression_of, whole_expression, argument}
+use Rattle.dr_meaning.specs.Parse.{begins_item, begins_key, path_names, keys}
+use Rattle.dr_sub_meaning.specs.NestedParse as nested
+use Rattle.dr_sql.specs.Productions.{items_at}
 use Rattle.dr_sql.specs.Reads.{IsFaultOf}
 use Rattle.dr_sql.specs.declared.fault.QueryFault.{QueryFault}
 use Rattle.dr_sql.proofs.LoopLemmas.{one_less, fault_through}
 
 -- ---- what stands under names of its own
 
-pub items_are : (u : Unread) → items u ≡ elements begins_item item (256 - 1) u
-unfolding items
-items_are u = refl
+pub items_are : (n : ℕ) (u : Unread) → items_at n u ≡ elements begins_item (nested.item n) (256 - 1) u
+unfolding items_at
+items_are n u = refl
 
 pub keys_are : (u : Unread) → keys u ≡ elements begins_key path_names (256 - 1) u
 unfolding keys
 keys_are u = refl
-
-pub whole_is : (u : Unread) → whole_expression u ≡ expression_of (nested 32) u
-unfolding whole_expression
-whole_is u = refl
-
-pub argument_is : (u : Unread) → argument u ≡ expression_of (nested 31) u
-unfolding argument
-argument_is u = refl
 
 -- ---- the first element
 

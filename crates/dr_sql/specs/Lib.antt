@@ -3,6 +3,7 @@ pub mod Views
 pub mod Boxes
 pub mod Faults
 pub mod Reads
+pub mod Productions
 pub mod Tests
 pub mod Lexing
 pub mod Precedences

@@ -5,6 +5,7 @@ use Rattle.std.specs.declared.alloc.Global.{Global}
 use Rattle.dr_meaning.specs.Expression as meant
 use Rattle.dr_meaning.specs.Query as meant_query
 use Rattle.dr_meaning.specs.Syntax as syntax
+use Rattle.dr_sub_meaning.specs.NestedParse as nested
 use Rattle.dr_sql.specs.TokenViews.{undoubled}
 use Rattle.dr_sql.specs.declared.expression.Path.{Path}
 use Rattle.dr_sql.specs.declared.expression.Arithmetic.{Arithmetic}
@@ -19,6 +20,10 @@ use Rattle.dr_sql.specs.declared.query.Item.{Item}
 use Rattle.dr_sql.specs.declared.query.Table.{Table}
 use Rattle.dr_sql.specs.declared.query.Condition.{Condition}
 use Rattle.dr_sql.specs.declared.query.Query.{Query}
+use Rattle.dr_sql.specs.declared.query.Order.{Order}
+use Rattle.dr_sql.specs.declared.query.Select.{Select}
+use Rattle.dr_sql.specs.declared.query.Nested.{Nested}
+use Rattle.dr_sql.specs.declared.selects.Source.{Source}
 
 -- a name that is lent from the text
 abbrev pub lent : Bor (List ℕ) → List ℕ
@@ -112,3 +117,25 @@ query_view q = record {
   condition = maybe_condition q.condition;
   keys = keys_view q.keys;
 }
+
+abbrev pub order_view : Order → nested.OrderSyntax
+order_view o = record { path = path_view o.path; descending = o.descending }
+
+abbrev pub maybe_order : Option Order → Option nested.OrderSyntax
+maybe_order o = option_map order_view o
+
+-- a limit, as it is
+abbrev pub same_limit : Option ℕ → Option ℕ
+same_limit n = n
+
+abbrev pub select_view : Select → nested.PlacedQuery
+select_view s = record { place = s.place; query = query_view s.query; order = maybe_order s.order; limit = s.limit }
+
+abbrev pub nested_view : Nested → nested.NestedSyntax
+nested_view n = record { first = select_view n.first; others = map select_view n.others.items }
+
+abbrev pub maybe_nested : Option Nested → Option nested.NestedSyntax
+maybe_nested n = option_map nested_view n
+
+abbrev pub source_view : Source → nested.FromSyntax
+source_view s = record { table = table_view s.table; inner = maybe_nested s.inner }

@@ -22,6 +22,7 @@ pub struct Cursor<'t, 'a> {
 impl<'a> Cursor<'_, 'a> {
     ghost use Rattle.dr_sql.specs.Reads.{unread, Reads, same, IsFaultOf};
     ghost use Rattle.dr_sql.specs.Views.{lent};
+    ghost use Rattle.dr_sub_meaning.specs.NestedParse.{number_in};
     ghost use Rattle.dr_sql.specs.TokenViews.{undoubled};
 
     /// How many tokens are left.
@@ -153,6 +154,21 @@ impl<'a> Cursor<'_, 'a> {
             Some(Token::Name(name)) => {
                 self.advance();
                 Ok(name)
+            }
+            _ => Err(self.fault(QueryProblem::Syntax)),
+        }
+    }
+
+    /// Reads a number.
+    ///
+    /// Errors: another token is next.
+    pub fn number(&mut self) -> Result<u64, QueryFault>
+        ensures { Reads same (parse.token_as number_in (unread self.old)) (unread self.new) result }
+    {
+        match self.next() {
+            Some(Token::Number(number)) => {
+                self.advance();
+                Ok(number.value)
             }
             _ => Err(self.fault(QueryProblem::Syntax)),
         }

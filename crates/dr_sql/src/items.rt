@@ -1,16 +1,16 @@
-//! Reading items.
+//! Reading items. `depth` says how many nestings may still be opened.
 
 ghost use Rattle.std.specs.Prelude.{◌≡◌, option_map, option_and_then};
 ghost use Rattle.dr_meaning.specs.Parse as parse;
-ghost use Rattle.dr_sql.specs.Boxes.{boxed_view};
+ghost use Rattle.dr_sub_meaning.specs.NestedParse as nested;
+ghost use Rattle.dr_sql.specs.Productions.{item_term, items_at};
 ghost use Rattle.dr_sql.specs.Reads.{unread, Reads};
 ghost use Rattle.dr_sql.specs.Views.{aggregate_view, item_view, items_view, maybe_lent, maybe_within, term_view};
 
 use crate::cursor::Cursor;
-use crate::expression::Expression;
-use crate::fault::QueryFault;
-use crate::limits::{GREATEST_NESTING, MOST_ITEMS};
-use crate::operands::expression;
+use crate::fault::{QueryFault, QueryProblem};
+use crate::limits::MOST_ITEMS;
+use crate::operands::{deeper, expression};
 use crate::paths::path;
 use crate::query::{Aggregate, Item, Node, Term, Within};
 use crate::token::Token;
@@ -46,26 +46,6 @@ fn begins_item(cursor: &Cursor<'_, '_>) -> bool
     }
 }
 
-/// expr, where no nesting is open
-pub fn whole_expression<'a>(
-    alloc: Global,
-    cursor: &mut Cursor<'_, 'a>,
-) -> Result<Box<Expression<'a>>, QueryFault>
-    ensures { Reads boxed_view (parse.whole_expression (unread cursor.old)) (unread cursor.new) result }
-{
-    expression(alloc, cursor, GREATEST_NESTING)
-}
-
-/// expr in the parenthesis of an aggregate, which is a nesting
-fn argument<'a>(
-    alloc: Global,
-    cursor: &mut Cursor<'_, 'a>,
-) -> Result<Box<Expression<'a>>, QueryFault>
-    ensures { Reads boxed_view (parse.argument (unread cursor.old)) (unread cursor.new) result }
-{
-    expression(alloc, cursor, GREATEST_NESTING - 1)
-}
-
 /// [WITHIN (RECORD | path)]
 fn within<'a>(alloc: Global, cursor: &mut Cursor<'_, 'a>) -> Result<Option<Within<'a>>, QueryFault>
     ensures { Reads maybe_within (parse.within_part (unread cursor.old)) (unread cursor.new) result }
@@ -93,19 +73,43 @@ fn rows_argument<'a>(alloc: Global, cursor: &mut Cursor<'_, 'a>) -> Result<Term<
     Ok(Term::CountRows(within(alloc, cursor)?))
 }
 
-/// expr ")", behind an aggregate's "(", and what is within
+/// expr ")", behind an aggregate's "(", which is a nesting, and what is within
 fn expression_argument<'a>(
     alloc: Global,
     cursor: &mut Cursor<'_, 'a>,
     aggregate: Aggregate,
+    depth: u32,
 ) -> Result<Term<'a>, QueryFault>
-    ensures { Reads term_view (parse.expression_argument (aggregate_view aggregate) (unread cursor.old))
+    ensures { Reads term_view (nested.argument_term depth (aggregate_view aggregate) (unread cursor.old))
         (unread cursor.new) result }
 {
-    let argument = argument(alloc, cursor)?;
+    let argument = expression(alloc, cursor, depth)?;
     cursor.sign(Sign::Close)?;
     let within = within(alloc, cursor)?;
     Ok(Term::Aggregate(aggregate, argument, within))
+}
+
+/// "(" ("*" | expr) ")" [WITHIN (RECORD | path)], behind an aggregate's word; "*" behind COUNT alone
+fn argument<'a>(
+    alloc: Global,
+    cursor: &mut Cursor<'_, 'a>,
+    aggregate: Aggregate,
+    depth: u32,
+) -> Result<Term<'a>, QueryFault>
+    ensures { Reads term_view (nested.opened_term depth (aggregate_view aggregate) (unread cursor.old))
+        (unread cursor.new) result }
+{
+    if !cursor.next_is_sign(Sign::Open) {
+        return Err(cursor.fault(QueryProblem::Syntax));
+    }
+    let inside = deeper(cursor, depth)?;
+    cursor.advance();
+    let is_count = matches!(aggregate, Aggregate::Count);
+    if is_count && cursor.next_is_sign(Sign::Star) {
+        rows_argument(alloc, cursor)
+    } else {
+        expression_argument(alloc, cursor, aggregate, inside)
+    }
 }
 
 /// ( COUNT "(" ("*" | expr) ")" | (SUM|MIN|MAX) "(" expr ")" ) [WITHIN (RECORD | path)]
@@ -113,27 +117,22 @@ fn aggregate_term<'a>(
     alloc: Global,
     cursor: &mut Cursor<'_, 'a>,
     aggregate: Aggregate,
+    depth: u32,
 ) -> Result<Term<'a>, QueryFault>
-    ensures { Reads term_view (parse.aggregate_term (aggregate_view aggregate) (unread cursor.old))
+    ensures { Reads term_view (nested.aggregate_term depth (aggregate_view aggregate) (unread cursor.old))
         (unread cursor.new) result }
 {
     cursor.advance();
-    cursor.sign(Sign::Open)?;
-    let is_count = matches!(aggregate, Aggregate::Count);
-    if is_count && cursor.next_is_sign(Sign::Star) {
-        rows_argument(alloc, cursor)
-    } else {
-        expression_argument(alloc, cursor, aggregate)
-    }
+    argument(alloc, cursor, aggregate, depth)
 }
 
 /// agg | expr
-fn term<'a>(alloc: Global, cursor: &mut Cursor<'_, 'a>) -> Result<Term<'a>, QueryFault>
-    ensures { Reads term_view (parse.item_term (unread cursor.old)) (unread cursor.new) result }
+fn term<'a>(alloc: Global, cursor: &mut Cursor<'_, 'a>, depth: u32) -> Result<Term<'a>, QueryFault>
+    ensures { Reads term_view (item_term depth (unread cursor.old)) (unread cursor.new) result }
 {
     match next_aggregate(cursor) {
-        Some(aggregate) => aggregate_term(alloc, cursor, aggregate),
-        None => Ok(Term::Expression(whole_expression(alloc, cursor)?)),
+        Some(aggregate) => aggregate_term(alloc, cursor, aggregate, depth),
+        None => Ok(Term::Expression(expression(alloc, cursor, depth)?)),
     }
 }
 
@@ -149,28 +148,32 @@ fn item_name<'a>(cursor: &mut Cursor<'_, 'a>) -> Result<Option<&'a str>, QueryFa
 }
 
 /// item = ( agg | expr ) [AS name]
-fn item<'a>(alloc: Global, cursor: &mut Cursor<'_, 'a>) -> Result<Item<'a>, QueryFault>
-    ensures { Reads item_view (parse.item (unread cursor.old)) (unread cursor.new) result }
+fn item<'a>(alloc: Global, cursor: &mut Cursor<'_, 'a>, depth: u32) -> Result<Item<'a>, QueryFault>
+    ensures { Reads item_view (nested.item depth (unread cursor.old)) (unread cursor.new) result }
 {
     let place = cursor.place();
-    let term = term(alloc, cursor)?;
+    let term = term(alloc, cursor, depth)?;
     let name = item_name(cursor)?;
     Ok(Item { place, term, name })
 }
 
 /// item {"," item}
-pub fn items<'a>(alloc: Global, cursor: &mut Cursor<'_, 'a>) -> Result<Vec<Item<'a>>, QueryFault>
-    ensures { Reads items_view (parse.items (unread cursor.old)) (unread cursor.new) result }
+pub fn items<'a>(
+    alloc: Global,
+    cursor: &mut Cursor<'_, 'a>,
+    depth: u32,
+) -> Result<Vec<Item<'a>>, QueryFault>
+    ensures { Reads items_view (items_at depth (unread cursor.old)) (unread cursor.new) result }
 {
     let mut items = Vec::new(alloc);
-    items.push(item(alloc, cursor)?)?;
+    items.push(item(alloc, cursor, depth)?)?;
     'items: while cursor.next_is_sign(Sign::Comma) {
         cursor.advance();
         if items.len() >= MOST_ITEMS {
             let begins = begins_item(cursor);
             return Err(cursor.one_too_many(begins));
         }
-        items.push(item(alloc, cursor)?)?;
+        items.push(item(alloc, cursor, depth)?)?;
     }
     Ok(items)
 }

@@ -17,6 +17,7 @@ mod parsing;
 mod paths;
 mod precedence;
 mod query;
+mod selects;
 mod token;
 mod unquoting;
 mod word;
@@ -30,6 +31,8 @@ pub use limits::{
     GREATEST_NESTING, LONGEST_QUERY, MOST_ITEMS, MOST_OPERATORS, query_limits_are_as_defined,
 };
 pub use numeral::Numeral;
-pub use parsing::parse;
-pub use query::{Aggregate, Condition, Item, Node, Query, Table, Term, Within};
+pub use parsing::{parse, parse_nested};
+pub use query::{
+    Aggregate, Condition, Item, Nested, Node, Order, Query, Select, Table, Term, Within,
+};
 pub use unquoting::unquoted;

@@ -23,7 +23,7 @@ use std::alloc::Global;
 /// How many nestings may be opened in the one that the next token opens.
 ///
 /// Errors: none may be opened.
-fn deeper(cursor: &Cursor<'_, '_>, depth: u32) -> Result<u32, QueryFault>
+pub fn deeper(cursor: &Cursor<'_, '_>, depth: u32) -> Result<u32, QueryFault>
     ensures inside { IfOk result (λ n. depth ≡ suc n) }
     ensures none { IfErr result (λ e. (e ≡ QueryFault.Refused
         (parse.place_of (unread cursor.now)) QueryProblem.TooDeep)) }

@@ -64,3 +64,27 @@ pub struct Query<'a> {
     pub condition: Option<Condition<'a>>,
     pub keys: Vec<Path<'a>>,
 }
+
+/// ORDER BY: a path, and whether DESC stands behind it.
+#[derive(Drop)]
+pub struct Order<'a> {
+    pub path: Path<'a>,
+    pub descending: bool,
+}
+
+/// A SELECT of a text, with the place of that word, its order and its limit. The table of one that stands over another
+/// SELECT is `Result`, at the parenthesis.
+#[derive(Drop)]
+pub struct Select<'a> {
+    pub place: usize,
+    pub query: Query<'a>,
+    pub order: Option<Order<'a>>,
+    pub limit: Option<u64>,
+}
+
+/// The SELECT over the table, which is the innermost, and those over one another.
+#[derive(Drop)]
+pub struct Nested<'a> {
+    pub first: Select<'a>,
+    pub others: Vec<Select<'a>>,
+}
