@@ -1,5 +1,5 @@
 -- What judging and restoring columns in schema order say of the columns as they are given.
-use Rattle.std.proofs.Common.{◌≡◌, ℕ, List, map, length, true, Some, Vec, Global, sym, ap, ◌∙◌, subst}
+use Rattle.std.proofs.Common.{◌≡◌, ℕ, List, ◌++◌, map, length, true, Some, Vec, Global, sym, ap, ◌∙◌, subst}
 use Rattle.std.specs.Prelude.{Result, Ok, Err, IfOk, IsErrOf, IsErrAnd}
 use Rattle.std.specs.List.{list_all}
 use Rattle.dr_meaning.specs.Schema.{Fields}
@@ -15,6 +15,8 @@ use Rattle.dr_assemble.specs.Assembly.{AreProjections}
 use Rattle.dr_assemble.specs.Views.{nodes_view, Restores}
 use Rattle.dr_assemble.proofs.AssemblyLemmas.{some_same, nothing_restored}
 use Rattle.dr_assemble.proofs.JudgingLemmas.{SomeHave, NoneHave}
+use Rattle.dr_assemble.specs.Lines.{strip_lines, PrintsRecords}
+use Rattle.dr_assemble.proofs.LineLemmas.{lines_same}
 use Rattle.dr_assemble.proofs.OrderedAssembly.{has_from_order, has_by_order, columns_restored_each}
 
 -- some records have columns
@@ -55,6 +57,12 @@ none_refused fs F C rows leaves S q (Err e) h x b =
     let none = nothing_restored (λ (v : Vec code.Node Global). nodes_view v.items) (restored_each (assembled fs 0 0 0) 0 rows S) e h b in
     let some = restored_of fs F C rows leaves S q x.0 x.1 in
     absurd (cc)
+
+-- of columns that records have, the records' lines are printed
+pub printed_of : (fs : Fields) (F : List (List Step)) (C : List (List Triplet)) (rows : ℕ) → list_all (is_leaf_path fs) F ≡ true → (S : List Strip) → S ≡ strips_at (schema_order fs F) F C
+    → (before after : List ℕ) → after ≡ before ++ strip_lines fs rows S → SomeHas fs F C rows → PrintsRecords fs F C rows before after
+printed_of fs F C rows leaves S q before after h x =
+    (x.0, x.1, h ∙ ap (λ (t : List ℕ). before ++ t) (lines_same fs rows S (map (project F) x.0) (restored_of fs F C rows leaves S q x.0 x.1)))
 
 -- a fault that is handed on is the fault that was told
 pub fault_kept : {A B : Type 0} (r : Result A AssembleFault) (k : Result B AssembleFault) (e : AssembleFault) → k ≡ Err e → IsErrAnd r (λ (x : AssembleFault). x ≡ e) → IsErrOf r AssembleFault.BadData → IsErrOf k AssembleFault.BadData

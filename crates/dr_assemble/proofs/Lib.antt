@@ -6,6 +6,9 @@ mod FillingLemmas
 mod AssemblyLemmas
 -- what the loops restore
 mod LoopLemmas
+-- what is printed of strips are the lines of what is restored, and how it grows
+mod LineLemmas
+pub mod PrintingLemmas
 -- strips of leaves that come once each
 pub mod KeepingLemmas
 pub mod DistinctLemmas

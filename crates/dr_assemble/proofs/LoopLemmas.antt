@@ -71,10 +71,10 @@ behind_one_slot : (os : List (Option Instances)) (o : Option Instances) (n : Opt
 behind_one_slot os o None = refl
 behind_one_slot os o (Some n) = ap Some (onto_push os o n)
 
-field_first : (f : Field) (fs : List Field) → fields_view (f ∷ fs) ≡ tree.field (string_bytes f.name) (rep_view f.rep) (shape_view f.shape) (fields_view fs)
+pub field_first : (f : Field) (fs : List Field) → fields_view (f ∷ fs) ≡ tree.field (string_bytes f.name) (rep_view f.rep) (shape_view f.shape) (fields_view fs)
 field_first f fs = rw (view-field f) refl
 
-next_in : {X : Type 0} (xs : List X) (i : ℕ) (x : X) → i < length xs → x ≡ get_or xs i x → drop i xs ≡ x ∷ drop (i + 1) xs
+pub next_in : {X : Type 0} (xs : List X) (i : ℕ) (x : X) → i < length xs → x ≡ get_or xs i x → drop i xs ≡ x ∷ drop (i + 1) xs
 next_in xs i x h is = drop_more xs i x h ∙ ap (λ y. y ∷ drop (i + 1) xs) (sym is)
 
 module _ (all : List Field) (k : ℕ) (f : Field) (h : k < length all) (is : f ≡ get_or all k f) (l d : ℕ) (S : List Strip) (os : List (Option Instances)) (m : Option Node)

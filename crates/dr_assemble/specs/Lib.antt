@@ -1,5 +1,7 @@
 -- restoring nodes of the triplets of their leaves
 pub mod Restoring
+-- the lines of records, of the triplets of their leaves
+pub mod Lines
 -- paths in schema order
 pub mod Ordered
 -- which records have given columns

@@ -24,7 +24,7 @@ use dr_walk::AssembleFault;
 use std::alloc::{AllocError, Global};
 
 /// The fields' paths with their columns, in this order.
-fn strips_of<'a>(
+pub(crate) fn strips_of<'a>(
     alloc: Global,
     fields: &'a [Path],
     columns: &'a [Column],

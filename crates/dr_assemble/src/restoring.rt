@@ -26,7 +26,7 @@ fn first_value<'a>(triplets: Triplets<'a>) -> Option<ValueRef<'a>>
 }
 
 /// The first strip's first value.
-fn first_strip_value<'a>(strips: &[Strip<'a>]) -> Option<ValueRef<'a>>
+pub fn first_strip_value<'a>(strips: &[Strip<'a>]) -> Option<ValueRef<'a>>
     ensures { option_map lent_value result ≡ restoring.first_strip_value (strips_view strips.now) }
 {
     match strips {
@@ -65,7 +65,7 @@ fn restore_atom(alloc: Global, kind: Kind, strips: &[Strip]) -> Result<Instance,
 }
 
 /// Whether the first definition level is above that of the group.
-fn is_present(triplets: Triplets<'_>, definition: u32) -> bool
+pub fn is_present(triplets: Triplets<'_>, definition: u32) -> bool
     ensures { result ≡ nat_lt definition (restoring.first_definition (triplets_view triplets.entry)) }
 {
     match triplets.levels() {

@@ -113,7 +113,7 @@ impl<'a> Strip<'a> {
     }
 
     /// Without the step into the field.
-    fn without_step(&self) -> Strip<'a>
+    pub fn without_step(&self) -> Strip<'a>
         ensures { strip_view result ≡ restoring.without_step (strip_view self.now) }
     {
         match self.rest {

@@ -25,7 +25,8 @@ use Rattle.dr_scan.proofs.RecordsLemmas.{paths_same, have_leaf_paths}
 use Rattle.dr_dump.specs.Dumps.{lines_text}
 use Rattle.dr_dump.specs.Leaves.{rest_of, IsTold, IsLeafRecords}
 use Rattle.dr_dump.specs.Slices.{AreBehind, AreTaken}
-use Rattle.dr_dump.specs.Lines.{is_passed, PrintsColumns, PrintsOpened, PrintsSome}
+use Rattle.dr_assemble.specs.Lines.{PrintsRecords}
+use Rattle.dr_dump.specs.Lines.{is_passed, PrintsOpened, PrintsSome}
 use Rattle.dr_dump.specs.declared.leaf_records.LeafRecords.{LeafRecords}
 use Rattle.dr_dump.proofs.SliceLemmas.{there, same_item, all_records, slice_more, given_with, none_cause, none_have_slice, all_of_file, some_behind_all}
 
@@ -34,8 +35,8 @@ pub lead_to_leaves : (fs : Fields) (ps : List Path) → AreLeavesOf fs (map path
 lead_to_leaves fs ps h = sym (ap (list_all (is_leaf_path fs)) (paths_same ps)) ∙ have_leaf_paths fs ps h
 
 -- columns printed by the paths of leaves
-pub printed_by_leaves : (fs : Fields) (ps : List Path) (C : List (List Triplet)) (k : ℕ) (before after : List ℕ) → PrintsColumns fs (paths_view ps) C k before after → PrintsColumns fs (paths_of_leaves (map path_view ps)) C k before after
-printed_by_leaves fs ps C k before after h = subst (λ (F : List (List Step)). PrintsColumns fs F C k before after) (paths_same ps) h
+pub printed_by_leaves : (fs : Fields) (ps : List Path) (C : List (List Triplet)) (k : ℕ) (before after : List ℕ) → PrintsRecords fs (paths_view ps) C k before after → PrintsRecords fs (paths_of_leaves (map path_view ps)) C k before after
+printed_by_leaves fs ps C k before after h = subst (λ (F : List (List Step)). PrintsRecords fs F C k before after) (paths_same ps) h
 
 pub none_by_leaves : (fs : Fields) (ps : List Path) (C : List (List Triplet)) (k : ℕ) → NoneHas fs (paths_view ps) C k → NoneHas fs (paths_of_leaves (map path_view ps)) C k
 none_by_leaves fs ps C k h = subst (λ (F : List (List Step)). NoneHas fs F C k) (paths_same ps) h
@@ -56,7 +57,7 @@ lines_more fs t R S = ap (lines_text fs) (map-append t R S) ∙ flat_map-append 
 
 -- one slice more
 pub printed_more : (s : Schema) (F : List Leaf) (held : Option Files) (o : Opened) (left still k : ℕ) (before middle after : List ℕ) (xs ys : List LeafRecords) (C : List (List Triplet)) → (p : IsPrinted s F held o left before middle xs)
-    → AreTaken held o F p.records k (length F) xs ys C → PrintsColumns s.fields (paths_of_leaves F) C k middle after → k ≤ left → still ≡ left - k → IsPrinted s F held o still before after ys
+    → AreTaken held o F p.records k (length F) xs ys C → PrintsRecords s.fields (paths_of_leaves F) C k middle after → k ≤ left → still ≡ left - k → IsPrinted s F held o still before after ys
 printed_more s F held o left still k before middle after xs ys C p t c few e =
     let R = p.records in
     let S : List Node = c.0 in

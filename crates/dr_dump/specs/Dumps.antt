@@ -6,14 +6,11 @@ use Rattle.dr_meaning.specs.Path.{Leaf, paths_of_leaves}
 use Rattle.dr_meaning.specs.Record.{Node, project}
 use Rattle.dr_meaning.specs.Print.{record_text}
 use Rattle.dr_formats.specs.TableFile.{Table}
+pub use Rattle.dr_assemble.specs.Lines.{lines_text}
 use Rattle.dr_outside.specs.Link.{LinkShown}
 use Rattle.dr_reading.specs.Scan.{joined, tablets_of}
 use Rattle.dr_reading.specs.Left.{LeftTablet}
 use Rattle.dr_reading.specs.InTurn.{GiveInTurn, LeaveInTurn}
-
--- the lines of records
-abbrev pub lines_text : Fields → List Node → List ℕ
-lines_text fs R = flat_map (record_text fs) R
 
 -- the lines of records, projected to leaves
 abbrev pub dump_text : Fields → List Leaf → List Node → List ℕ

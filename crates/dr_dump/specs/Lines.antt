@@ -1,12 +1,10 @@
 -- What is printed of a file's records, slice after slice.
-use Rattle.std.specs.Prelude.{◌≡◌, ◌==◌, ℕ, List, ◌++◌, map, length, Bool, Option}
+use Rattle.std.specs.Prelude.{◌≡◌, ◌==◌, ℕ, List, ◌++◌, length, Bool, Option}
 use Rattle.dr_meaning.specs.Schema.{Schema, Fields}
-use Rattle.dr_meaning.specs.Path.{Step, Leaf}
-use Rattle.dr_meaning.specs.Record.{Node, project}
-use Rattle.dr_meaning.specs.Column.{Triplet}
+use Rattle.dr_meaning.specs.Path.{Leaf}
+use Rattle.dr_meaning.specs.Record.{Node}
 use Rattle.dr_outside.specs.Link.{Files}
 use Rattle.dr_outside.specs.Telling.{TellsFile}
-use Rattle.dr_walk.specs.Walking.{HasColumns}
 use Rattle.dr_file.specs.declared.opened.Opened.{Opened}
 use Rattle.dr_scan.specs.FileRecords.{AreOfFile, AreProjected}
 use Rattle.dr_dump.specs.Dumps.{lines_text}
@@ -20,10 +18,6 @@ is_passed x = length (rest_of x) == 0
 -- the lines of some records joined a text
 abbrev pub PrintsSome : Fields → List ℕ → List ℕ → Type 0
 PrintsSome fs before after = (P : List Node) × (after ≡ before ++ lines_text fs P)
-
--- those of so many records with these columns, projected to the leaves
-abbrev pub PrintsColumns : Fields → List (List Step) → List (List Triplet) → ℕ → List ℕ → List ℕ → Type 0
-PrintsColumns fs F C rows before after = (R : List Node) × HasColumns fs F C rows R × (after ≡ before ++ lines_text fs (map (project F) R))
 
 -- those of records of the schema, projected to the leaves, which are the records of an opened file where a link tells it
 pub record PrintsOpened (s : Schema) (F : List Leaf) (held : Option Files) (o : Opened) (before after : List ℕ) : Type 0 where

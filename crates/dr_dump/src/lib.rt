@@ -1,5 +1,5 @@
-//! The lines of a table's records, projected to some leaves, or the tablets that are left. No more than a slice of the
-//! records is held at a time, beside the lines.
+//! The lines of a table's records, projected to some leaves, or the tablets that are left. No more than the columns of
+//! a slice of the records is held at a time, beside the lines.
 #![tactic(auto)]
 
 mod append;

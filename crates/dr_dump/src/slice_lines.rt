@@ -1,30 +1,23 @@
 //! The lines of the records of an opened file, of which the columns of some records are held at a time.
 
-ghost use Rattle.std.specs.Prelude.{◌≡◌, ◌≢◌, ◌++◌, ◌==◌, List, map, length, true, Err, OnOk, IsErrOf, string_bytes};
+ghost use Rattle.std.specs.Prelude.{◌≡◌, ◌≢◌, map, length, Err, OnOk, string_bytes};
 ghost use Rattle.std.specs.List.{list_all};
-ghost use Rattle.dr_meaning.specs.Record.{Node as MeantNode};
 ghost use Rattle.dr_nested.specs.Views.{fields_view};
 ghost use Rattle.dr_nested.specs.SchemaView.{schema_view};
-ghost use Rattle.dr_nested.specs.PathView.{path_view, paths_view};
-ghost use Rattle.dr_levels.specs.Views.{columns_view};
-ghost use Rattle.dr_assemble.specs.Views.{nodes_view};
-ghost use Rattle.dr_walk.specs.Walking.{NoneHas};
-ghost use Rattle.dr_walk.specs.declared.fault.AssembleFault.{AssembleFault as Fault};
+ghost use Rattle.dr_nested.specs.PathView.{path_view};
 ghost use Rattle.dr_file.specs.OpenedFiles.{leaf_count};
 ghost use Rattle.dr_scan.specs.FileRecords.{AreLeavesOf, IsFaultOf};
-ghost use Rattle.dr_dump.specs.Dumps.{lines_text};
-ghost use Rattle.dr_dump.specs.Leaves.{rest_of, ReadsLeaves};
-ghost use Rattle.dr_dump.specs.Lines.{is_passed as meant_passed, PrintsColumns, PrintsOpened, PrintsSome};
+ghost use Rattle.dr_dump.specs.Leaves.{ReadsLeaves};
+ghost use Rattle.dr_dump.specs.Lines.{is_passed as meant_passed, PrintsOpened, PrintsSome};
 
 use crate::leaf_records::LeafRecords;
 use crate::slices::{leaf_records, take_slice};
-use dr_assemble::{AssembleFault, assemble};
+use dr_assemble::push_lines;
 use dr_file::{FileFault, Opened};
 use dr_levels::Column;
 use dr_memory::NoMemory;
-use dr_nested::{Node, Path, Schema};
+use dr_nested::{Path, Schema};
 use dr_outside::{Cause, Link};
-use dr_print::push_record_text;
 use dr_scan::file_fault;
 use std::alloc::Global;
 
@@ -33,49 +26,6 @@ const MOST_RECORDS: u64 = 1_024;
 
 /// The triplets of a slice from which on the next one has fewer records.
 const MANY_TRIPLETS: usize = 4_096;
-
-/// Appends the lines of records.
-fn push_lines(
-    alloc: Global,
-    text: &mut String,
-    schema: &Schema,
-    records: &[Node],
-) -> Result<(), NoMemory>
-    ensures { OnOk result (string_bytes text.new
-        ≡ string_bytes text.old ++ lines_text (fields_view (schema.now).fields.items) (nodes_view records.now)) }
-{
-    'records: for record in records {
-        push_record_text(alloc, text, schema, record)?;
-    }
-    Ok(())
-}
-
-/// Appends the lines of as many records of the schema as are named, which have these columns, projected to these leaves.
-///
-/// Errors: `BadData` exactly where no such records have these columns, and the text is then as it was; want of memory.
-fn push_slice(
-    alloc: Global,
-    text: &mut String,
-    schema: &Schema,
-    fields: &[Path],
-    columns: &[Column],
-    records: u64,
-) -> Result<(), AssembleFault>
-    requires { AreLeavesOf (fields_view (schema.now).fields.items) (map path_view fields.now) }
-    ensures lines { OnOk result (PrintsColumns (fields_view (schema.now).fields.items) (paths_view fields.now)
-        (columns_view columns.now) records (string_bytes text.old) (string_bytes text.new)) }
-    ensures refused { IsErrOf result Fault.BadData → NoneHas (fields_view (schema.now).fields.items)
-        (paths_view fields.now) (columns_view columns.now) records }
-    ensures stays { IsErrOf result Fault.BadData → string_bytes text.new ≡ string_bytes text.old }
-{
-    match assemble(alloc, schema, fields, columns, records) {
-        Ok(nodes) => match push_lines(alloc, text, schema, &nodes) {
-            Ok(()) => Ok(()),
-            Err(NoMemory) => Err(AssembleFault::NoMemory),
-        },
-        Err(fault) => Err(fault),
-    }
-}
 
 /// How many records the next slice has at most, where the last one had so many at most, and these columns: twice as
 /// many up to 1,024, or one where it had many triplets.
@@ -99,7 +49,7 @@ fn are_passed(leaves: &[LeafRecords<'_>]) -> bool
 }
 
 /// Appends the lines of the records of an opened file, projected to these leaves, for which it was opened. Slice after
-/// slice is read, restored and printed, and no more of the file is held than a slice and a batch of each leaf.
+/// slice is read and printed, and no more of the file is held than a slice and a batch of each leaf.
 ///
 /// Errors: the link failed, with its counts of faults before and after this call; `BadData` where the file is none of
 /// any records for these leaves; want of memory. But for the last, the lines of some records may have joined the text.
@@ -134,7 +84,7 @@ pub(crate) fn push_opened<L: Link>(
             Ok(columns) => columns,
             Err(fault) => return Err(fault),
         };
-        match push_slice(alloc, text, schema, fields, &columns, records) {
+        match push_lines(alloc, text, schema, fields, &columns, records) {
             Ok(()) => {}
             Err(fault) => return Err(file_fault(fault)),
         }

@@ -30,7 +30,7 @@ between : (a z : ℕ) (old j : List ℕ) → ((old ++ a ∷ []) ++ j) ++ z ∷ [
 between a z old j = simp append_assoc
 
 -- parts between two brackets
-enclosed : (a z : ℕ) (ps : List (List ℕ)) (old t u : List ℕ) → t ≡ old ++ a ∷ [] → u ≡ t ++ separated false ps → u ++ z ∷ [] ≡ old ++ (a ∷ (join_with_byte 44 ps ++ z ∷ []))
+pub enclosed : (a z : ℕ) (ps : List (List ℕ)) (old t u : List ℕ) → t ≡ old ++ a ∷ [] → u ≡ t ++ separated false ps → u ++ z ∷ [] ≡ old ++ (a ∷ (join_with_byte 44 ps ++ z ∷ []))
 enclosed a z ps old t u e h =
     ap (λ (x : List ℕ). x ++ z ∷ []) (h ∙ ap₂ (λ (x y : List ℕ). x ++ y) e (separated-all ps)) ∙ between a z old (join_with_byte 44 ps)
 

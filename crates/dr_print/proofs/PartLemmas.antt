@@ -17,7 +17,7 @@ use Rattle.dr_meaning.specs.Lists.{comma_if, separated}
 
 -- ---- parts
 
-more_than_none : (k : ℕ) → nat_lt 0 (k + 1) ≡ true
+pub more_than_none : (k : ℕ) → nat_lt 0 (k + 1) ≡ true
 more_than_none k = grind arith
 
 some_suc : (k : ℕ) → nat_lt 0 (suc k) ≡ true
@@ -28,7 +28,7 @@ not_empty zero = refl
 not_empty (suc n) = ap not (eqb-suc-zero n) ∙ sym (some_suc n)
 
 -- parts behind a first one
-after_part : (behind : Bool) (p : List ℕ) (ps : List (List ℕ)) (text t : List ℕ) → t ≡ (text ++ comma_if behind) ++ p → t ++ separated true ps ≡ text ++ separated behind (p ∷ ps)
+pub after_part : (behind : Bool) (p : List ℕ) (ps : List (List ℕ)) (text t : List ℕ) → t ≡ (text ++ comma_if behind) ++ p → t ++ separated true ps ≡ text ++ separated behind (p ∷ ps)
 after_part behind p ps text t e =
     ap (λ (x : List ℕ). x ++ separated true ps) e ∙ append_assoc (text ++ comma_if behind) p (separated true ps) ∙ append_assoc text (comma_if behind) (p ++ separated true ps)
 

@@ -12,7 +12,8 @@ mod skipping;
 mod transitions;
 mod triplet_lines;
 
+pub use parts::{push_comma, push_name};
 pub use printing::result_text;
 pub use record_lines::{push_record_text, record_text};
 pub use transitions::automaton_text;
-pub use triplet_lines::{column_text, triplet_text};
+pub use triplet_lines::{column_text, push_lent_value, triplet_text};

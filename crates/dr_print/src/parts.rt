@@ -9,8 +9,10 @@ ghost use Rattle.dr_print.specs.Parts as parts;
 use std::alloc::{AllocError, Global};
 
 /// Appends a comma, where something stands before.
+///
+/// Errors: want of memory alone; the text is then as it was.
 #[inline(always)]
-pub(crate) fn push_comma(text: &mut String, behind: bool) -> Result<(), AllocError>
+pub fn push_comma(text: &mut String, behind: bool) -> Result<(), AllocError>
     ensures { OnOk result (string_bytes text.new ≡ string_bytes text.old ++ comma_if behind) }
 {
     match behind {
@@ -69,8 +71,10 @@ pub(crate) fn push_quoted(alloc: Global, text: &mut String, value: &str) -> Resu
 }
 
 /// Appends a name in quotes and a colon.
+///
+/// Errors: want of memory alone; the text may then have a part of them behind what it had.
 #[inline(always)]
-pub(crate) fn push_name(alloc: Global, text: &mut String, name: &str) -> Result<(), AllocError>
+pub fn push_name(alloc: Global, text: &mut String, name: &str) -> Result<(), AllocError>
     ensures { OnOk result (string_bytes text.new ≡ string_bytes text.old ++ (quoted name.now ++ 58 ∷ [])) }
 {
     push_quoted(alloc, text, name)?;

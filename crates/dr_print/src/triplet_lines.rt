@@ -27,6 +27,25 @@ pub(crate) fn push_int(text: &mut String, number: i64) -> Result<(), AllocError>
     text.push_str(buffer.format(number))
 }
 
+/// Appends a value as compact JSON.
+///
+/// Errors: want of memory alone; the text may then have a part of the value behind what it had.
+pub fn push_lent_value(
+    alloc: Global,
+    text: &mut String,
+    value: ValueRef<'_>,
+) -> Result<(), AllocError>
+    ensures { OnOk result (string_bytes text.new
+        ≡ string_bytes text.old ++ print.value_text (lent_value value.entry)) }
+{
+    match value {
+        ValueRef::Bool(true) => text.push_str("true"),
+        ValueRef::Bool(false) => text.push_str("false"),
+        ValueRef::Int(number) => push_int(text, number),
+        ValueRef::Text(value) => push_quoted(alloc, text, value),
+    }
+}
+
 /// Appends a value, or `NULL`.
 fn push_value(
     alloc: Global,
@@ -38,10 +57,7 @@ fn push_value(
 {
     match value {
         None => text.push_str("NULL"),
-        Some(ValueRef::Bool(true)) => text.push_str("true"),
-        Some(ValueRef::Bool(false)) => text.push_str("false"),
-        Some(ValueRef::Int(number)) => push_int(text, number),
-        Some(ValueRef::Text(value)) => push_quoted(alloc, text, value),
+        Some(value) => push_lent_value(alloc, text, value),
     }
 }
 
