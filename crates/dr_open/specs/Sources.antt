@@ -71,6 +71,10 @@ abbrev mutual
 abbrev pub behind_path : List (List ℕ) → List Step → Leaf → Leaf
 behind_path ns p l = record { names = ns ++ l.names; path = p ++ l.path; kind = l.kind }
 
+-- the first leaf of the fields of a group to which these names and steps lead
+abbrev pub first_leaf_at : List (List ℕ) → List Step → Fields → Option Leaf
+first_leaf_at ns p fs = option_map (behind_path ns p) (first_leaf fs)
+
 -- a step of which the repetition alone matters
 abbrev pub bare_step : Step → Step
 bare_step s = record { place = 0; repetition = s.repetition }

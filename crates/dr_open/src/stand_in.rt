@@ -1,12 +1,12 @@
 //! The leaf of a file that stands in for one that a group lacks.
 
-ghost use Rattle.std.specs.Prelude.{◌≡◌, ◌≤◌, ◌+◌, ℕ, List, Some, map, take, length, string_bytes, option_map, IfOk};
+ghost use Rattle.std.specs.Prelude.{◌≡◌, ◌≤◌, ◌+◌, Some, map, take, length, string_bytes, option_map, IfOk};
 ghost use Rattle.dr_meaning.specs.Path as path_meaning;
 ghost use Rattle.dr_meaning.specs.Schema.{greatest_depth};
 ghost use Rattle.dr_nested.specs.Views.{fields_view};
 ghost use Rattle.dr_nested.specs.PathView.{path_view, step_view};
 ghost use Rattle.dr_open.specs.LeafView.{leaf_view};
-ghost use Rattle.dr_open.specs.Sources.{first_leaf, behind_path, bare_step};
+ghost use Rattle.dr_open.specs.Sources.{first_leaf, first_leaf_at, bare_step};
 
 use dr_memory::NoMemory;
 use dr_nested::{Field, Kind, Path, Rep, Shape, Step};
@@ -77,8 +77,8 @@ fn push_first_leaf(
     steps: &mut Vec<Step>,
 ) -> Result<Option<Kind>, NoMemory>
     ensures { IfOk result (λ o. option_map (λ k. leaf_view names.new.items steps.new.items k) o
-        ≡ option_map (behind_path (map string_bytes names.old.items) (map step_view steps.old.items))
-        (first_leaf (fields_view (fields.now).items))) }
+        ≡ first_leaf_at (map string_bytes names.old.items) (map step_view steps.old.items)
+        (fields_view (fields.now).items)) }
 {
     let Some(field) = fields.first() else {
         return Ok(None);
@@ -109,8 +109,8 @@ pub(crate) fn first_leaf_behind(
     requires short { (l : path_meaning.Leaf) → first_leaf (fields_view (fields.now).items) ≡ Some l → parts
         + length l.path ≤ greatest_depth }
     ensures { IfOk result (λ o. option_map path_view o
-        ≡ option_map (behind_path (take parts (path_view path.now).names)
-        (map bare_step (take parts (path_view path.now).path))) (first_leaf (fields_view (fields.now).items))) }
+        ≡ first_leaf_at (take parts (path_view path.now).names)
+        (map bare_step (take parts (path_view path.now).path)) (fields_view (fields.now).items)) }
 {
     let mut names = copied_names(alloc, &path.names[..parts])?;
     let mut steps = bare_steps(alloc, &path.steps[..parts])?;
