@@ -3,7 +3,8 @@ use Rattle.std.proofs.Common.{◌≡◌, ◌≢◌, ◌<◌, ◌≤◌, ◌+◌,
 use Rattle.std.specs.Prelude.{◌==◌, if◌then◌else◌, is_some, not, slice_set, min}
 use Rattle.std.specs.List.{list_all}
 use Rattle.std.proofs.lemmas.Bool.{and_parts, cases_lt}
-use Rattle.std.proofs.lemmas.List.{get_or-map, get_or_push, get_or_append_left, get_or_past, length-map, length-drop, take-append-drop, drop-drop, map_push}
+use Rattle.std.proofs.lemmas.List.{get_or-map, get_or_push, get_or_append_left, get_or_past, length-append, length-map, length-drop, take-append-drop, drop-drop, map_push}
+use Rattle.std.proofs.Math.Seq.{take-append_seam}
 use Rattle.dr_meaning.specs.Record.{Value}
 use Rattle.dr_meaning.specs.Column.{Triplet, triplet}
 use Rattle.dr_meaning.specs.OneColumn.{starts}
@@ -14,8 +15,9 @@ use Rattle.dr_levels.specs.Views.{levels_pair, triplet_levels, triplets_view}
 use Rattle.dr_levels.specs.declared.triplet.Levels.{Levels}
 use Rattle.dr_levels.specs.declared.triplets.Triplets.{Triplets}
 use Rattle.dr_moves.specs.Leading.{columns_of}
-use Rattle.dr_agreement.specs.AtHand.{rest_of, whole, whole_of, whole_at, here_of, ends_of, CanPass}
+use Rattle.dr_agreement.specs.AtHand.{rest_of, whole, whole_of, whole_at, here_of, ends_of, CanPass, IsKept}
 use Rattle.dr_agreement.specs.declared.at_hand.AtHand.{AtHand}
+use Rattle.dr_agreement.specs.declared.at_hand.Kept.{Kept}
 use Rattle.dr_agreement.proofs.AloneLemmas.{is_dense, dense_triplets}
 
 -- ---- triplets again, of their levels and the values that they have
@@ -73,6 +75,31 @@ passed_on all passed begun count records h e c =
       omega (arith, e, a, c.1),
       omega (arith, e, a, b, c.1),
     )
+
+-- ---- triplets are lent, and more joins them
+
+starts_most : (ts : List Triplet) → starts ts ≤ length ts
+starts_most [] = omega arith
+starts_most (t ∷ ts) = by_first (t.repetition == 0) (starts ts) (length ts) (starts_most ts)
+  where
+    by_first : (b : Bool) (m n : ℕ) → m ≤ n → (if b then 1 else 0) + m ≤ suc n
+    by_first true m n h = omega (arith, h)
+    by_first false m n h = omega (arith, h)
+
+-- records that begin in the first so many and in the others
+pub starts_of_both : (all : List Triplet) (count records more : ℕ) → CanPass all count records → more ≡ starts (drop count all) → (records + more ≡ starts all) × (records + more ≤ length all)
+starts_of_both all count records more c e =
+    let a : starts all ≡ starts (take count all) + starts (drop count all) = ap starts (sym (take-append-drop count all)) ∙ starts_append (take count all) (drop count all) in (
+      omega (arith, a, c.1, e),
+      omega (arith, a, c.1, e, starts_most all),
+    )
+
+-- what is kept of triplets can be passed where more joined them
+pub kept_of_more : (ts more all : List Triplet) (k : Kept) → IsKept ts k → all ≡ ts ++ more → CanPass all k.triplets k.begun
+kept_of_more ts more all k h e =
+    let n : length all ≡ length ts + length more = ap length e ∙ length-append ts more in
+    let front : take k.triplets all ≡ ts = ap₂ (λ (m : ℕ) (us : List Triplet). take m us) h.0 e ∙ take-append_seam ts more in
+    (omega (arith, n, h.0), ap starts front ∙ sym h.1)
 
 -- ---- leaves by their numbers
 

@@ -5,14 +5,15 @@ use Rattle.dr_meaning.specs.OneColumn.{starts, begins_record}
 use Rattle.dr_levels.specs.Views.{LeafForm, column_form, column_view}
 use Rattle.dr_moves.specs.Leading.{Left, columns_of}
 use Rattle.dr_agreement.specs.declared.at_hand.AtHand.{AtHand}
+use Rattle.dr_agreement.specs.declared.at_hand.Kept.{Kept}
 
 -- the triplets that are left
 abbrev pub rest_of : AtHand → List Triplet
-rest_of x = drop x.passed (column_view x.batch)
+rest_of x = drop x.passed (column_view x.column)
 
 -- the leaf that they are of
 abbrev pub form_of : AtHand → LeafForm
-form_of x = column_form x.batch
+form_of x = column_form x.column
 
 -- how many records are whole of so many that begin: the last may go on, unless nothing comes behind it
 abbrev pub whole : Bool → ℕ → ℕ
@@ -31,6 +32,10 @@ pub record IsFrontOf (records : ℕ) (all front : List Triplet) : Type 0 where
 -- so many triplets may be passed, in which so many records begin
 abbrev pub CanPass : List Triplet → ℕ → ℕ → Type 0
 CanPass all count records = (count ≤ length all) × (starts (take count all) ≡ records)
+
+-- this is kept of triplets that are lent
+abbrev pub IsKept : List Triplet → Kept → Type 0
+IsKept ts k = (k.triplets ≡ length ts) × (k.begun ≡ starts ts)
 
 -- ---- several leaves
 

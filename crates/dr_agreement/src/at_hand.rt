@@ -12,30 +12,33 @@ use dr_nested::Kind;
 use std::alloc::Global;
 use std::mem;
 
-/// What is at hand of a leaf's column: the triplets of a batch that are left, and how many records begin in them.
+/// What was at hand of a leaf whose column is lent: how many triplets, and how many records begin in them.
+#[derive(Clone, Copy)]
+pub struct Kept {
+    pub triplets: usize,
+    pub begun: usize,
+}
+
+/// What is at hand of a leaf's column: the triplets that are left, and how many records begin in them.
 #[derive(Drop)]
 pub struct AtHand {
-    batch: Column,
-    /// How many triplets of the batch were passed.
+    column: Column,
+    /// How many triplets of the column were passed.
     passed: usize,
     /// How many records begin in the others.
     begun: usize,
     /// Whether nothing comes behind them.
     ended: bool,
-    /// Room for what is kept of a batch.
-    spare: Column,
-    ghost within: { passed ≤ length (column_view batch) },
-    ghost counted: { begun ≡ starts (drop passed (column_view batch)) },
-    ghost form: { column_form spare ≡ column_form batch },
+    ghost within: { passed ≤ length (column_view column) },
+    ghost counted: { begun ≡ starts (drop passed (column_view column)) },
 }
 
 impl AtHand {
     ghost use Rattle.std.specs.Prelude.{◌++◌, ◌-◌, ◌==◌, [], take, false, true, IfOk, OnOk, OnErr};
     ghost use Rattle.dr_meaning.specs.OneColumn.{begins_record};
     ghost use Rattle.dr_nested.specs.Views.{kind_view};
-    ghost use Rattle.dr_levels.specs.Columns.{Adds};
     ghost use Rattle.dr_levels.specs.Views.{form as meant_form, triplets_form, triplets_view};
-    ghost use Rattle.dr_agreement.specs.AtHand.{rest_of, form_of, whole_of, IsFrontOf, CanPass};
+    ghost use Rattle.dr_agreement.specs.AtHand.{rest_of, form_of, whole_of, IsFrontOf, CanPass, IsKept};
 
     /// Nothing of the column of a leaf of a kind with this greatest definition level.
     pub fn new(alloc: Global, kind: Kind, greatest: u8) -> AtHand
@@ -44,11 +47,10 @@ impl AtHand {
         ensures ended { result.ended ≡ false }
     {
         AtHand {
-            batch: Column::new(alloc, kind, greatest),
+            column: Column::new(alloc, kind, greatest),
             passed: 0,
             begun: 0,
             ended: false,
-            spare: Column::new(alloc, kind, greatest),
         }
     }
 
@@ -56,7 +58,7 @@ impl AtHand {
     pub fn len(&self) -> usize
         ensures { result ≡ length (rest_of self.now) }
     {
-        self.batch.len() - self.passed
+        self.column.len() - self.passed
     }
 
     /// Whether none is left.
@@ -90,7 +92,7 @@ impl AtHand {
         ensures rest { triplets_view result ≡ rest_of self.now }
         ensures form { triplets_form result ≡ form_of self.now }
     {
-        self.batch.triplets().split_at(self.passed).1
+        self.column.triplets().split_at(self.passed).1
     }
 
     /// The triplets of the first so many records that begin.
@@ -113,41 +115,50 @@ impl AtHand {
         self.begun -= records;
     }
 
-    /// Keeps what is left, and lets go of what was passed.
+    /// Lends the column with what is left, in the place of another column of the leaf, so that more joins it. What was
+    /// passed is let go of, and nothing is left until the column is taken back.
     ///
-    /// Errors: want of memory alone.
-    fn keep(&mut self) -> Result<(), NoMemory>
-        ensures rest { rest_of self.new ≡ rest_of self.old }
-        ensures passed { OnOk result ((self.new).passed ≡ 0) }
+    /// Errors: want of memory alone. What is left stays then.
+    pub fn lend(&mut self, out: &mut Column) -> Result<Kept, NoMemory>
+        requires { column_form out.old ≡ form_of self.old }
+        ensures column { OnOk result (column_view out.new ≡ rest_of self.old) }
+        ensures kept { IfOk result (IsKept (rest_of self.old)) }
+        ensures lent { OnOk result (rest_of self.new ≡ []) }
+        ensures stays { OnErr result (rest_of self.new ≡ rest_of self.old) }
         ensures ended { (self.new).ended ≡ (self.old).ended }
         ensures form { form_of self.new ≡ form_of self.old }
+        ensures column_form { column_form out.new ≡ column_form out.old }
     {
+        let kept = Kept {
+            triplets: self.len(),
+            begun: self.begun,
+        };
         if self.passed == 0 {
-            return Ok(());
+            mem::swap(&mut self.column, out);
+        } else {
+            out.clear();
+            append(self.rest(), out)?;
         }
-        self.spare.clear();
-        let rest = self.batch.triplets().split_at(self.passed).1;
-        append(rest, &mut self.spare)?;
-        mem::swap(&mut self.batch, &mut self.spare);
-        self.passed = 0;
-        Ok(())
+        self.passed = self.column.len();
+        self.begun = 0;
+        Ok(kept)
     }
 
-    /// Appends triplets of the leaf to what is left, and whether nothing comes behind them.
-    ///
-    /// Errors: want of memory, or of room: a column's texts have less than 4 GiB together. Nothing has changed then.
-    pub fn add(&mut self, more: Triplets<'_>, ended: bool) -> Result<(), NoMemory>
-        requires { triplets_form more ≡ form_of self.old }
-        ensures rest { Adds (rest_of self.old) (rest_of self.new) (triplets_view more.entry) result }
-        ensures ended { OnOk result ((self.new).ended ≡ ended) }
-        ensures stays { OnErr result ((self.new).ended ≡ (self.old).ended) }
+    /// Takes back a column that was lent, with what joined it, and whether nothing comes behind that. Another column of
+    /// the leaf is in its place then.
+    pub fn take_back(&mut self, column: &mut Column, kept: Kept, ended: bool)
+        requires form { column_form column.old ≡ form_of self.old }
+        requires kept { CanPass (column_view column.old) kept.triplets kept.begun }
+        ensures rest { rest_of self.new ≡ column_view column.old }
+        ensures ended { (self.new).ended ≡ ended }
         ensures form { form_of self.new ≡ form_of self.old }
+        ensures column_form { column_form column.new ≡ column_form column.old }
     {
-        self.keep()?;
-        append(more, &mut self.batch)?;
-        self.begun = count_records(self.batch.triplets());
+        mem::swap(&mut self.column, column);
+        let more = self.column.triplets().split_at(kept.triplets).1;
+        self.begun = kept.begun + count_records(more);
+        self.passed = 0;
         self.ended = ended;
-        Ok(())
     }
 
     /// Puts what is left at the end of a column of the leaf, in the place of what that has, and answers how many
@@ -159,8 +170,8 @@ impl AtHand {
         ensures same_form { form_of self.new ≡ form_of self.old }
     {
         let left = self.len();
-        mem::swap(&mut self.batch, out);
-        self.passed = self.batch.len();
+        mem::swap(&mut self.column, out);
+        self.passed = self.column.len();
         self.begun = 0;
         left
     }

@@ -14,7 +14,7 @@ mod outlines;
 
 pub use agreement::Agreement;
 pub use alone::{Alone, each_alone, tests_of};
-pub use at_hand::AtHand;
+pub use at_hand::{AtHand, Kept};
 pub use column_of_leaf::LeafTest;
 pub use cuts::{count_records, length_of};
 pub use fronts::{Front, front_of};

@@ -1,10 +1,11 @@
 -- A scan over columns, chunk by chunk: a chunk that is taken, more of a leaf, and the end.
 use Rattle.std.proofs.Common.{◌≡◌, ◌≢◌, ◌<◌, ◌≤◌, ◌+◌, ◌-◌, ◌⊎◌, inl, inr, ℕ, zero, suc, List, [], ◌∷◌, ◌++◌, map, length, drop, get_or, Bool, true, false, refl, sym, ap, ap₂, subst, ◌∙◌, arith}
-use Rattle.std.specs.Prelude.{slice_set, Option, Some, Result, Ok, Err, OnOk}
+use Rattle.std.specs.Prelude.{slice_set, Option, Some, Result, Ok, Err, OnOk, IfOk}
 use Rattle.std.specs.declared.alloc.Global.{Global}
 use Rattle.std.specs.declared.vec.Vec.{Vec}
 use Rattle.std.specs.List.{list_all}
 use Rattle.std.proofs.lemmas.List.{length-map}
+use Rattle.std.proofs.Math.Seq.{map-set_same}
 use Rattle.dr_meaning.specs.Schema.{Schema, Fields}
 use Rattle.dr_meaning.specs.Path.{Step as PathStep, Leaf, is_leaf_path, paths_of_leaves}
 use Rattle.dr_meaning.specs.Record.{Node}
@@ -16,20 +17,20 @@ use Rattle.dr_plan.specs.Planned.{plan_leaves}
 use Rattle.dr_plan.specs.declared.plan.Plan.{Plan}
 use Rattle.dr_beside.specs.Chunks.{HasColumns, NoneHas}
 use Rattle.dr_memory.specs.declared.NoMemory.{NoMemory}
-use Rattle.dr_levels.specs.Columns.{Adds}
 use Rattle.dr_levels.specs.Views.{triplets_view}
 use Rattle.dr_levels.specs.declared.triplets.Triplets.{Triplets}
 use Rattle.dr_beside.proofs.NeighbourLemmas.{tested_alone}
 use Rattle.dr_agreement.specs.Alone.{AreTestsOf, AreColumnsAlone, OneIsNoColumn}
-use Rattle.dr_agreement.specs.AtHand.{whole, whole_at, rest_of, here_of, ends_of, AreFronts, CanPass}
+use Rattle.dr_agreement.specs.AtHand.{whole, whole_at, rest_of, form_of, here_of, ends_of, AreFronts, CanPass, IsKept}
 use Rattle.dr_agreement.specs.Behind.{GoesOn, IsMore, IsBehind}
 use Rattle.dr_agreement.specs.declared.at_hand.AtHand.{AtHand}
+use Rattle.dr_agreement.specs.declared.at_hand.Kept.{Kept}
 use Rattle.dr_agreement.specs.declared.column_of_leaf.LeafTest.{LeafTest}
 use Rattle.dr_agreement.proofs.AtHandLemmas.{here_past, here_there, here_set, here_others, end_set, end_others}
 use Rattle.dr_agreement.proofs.FrontsLemmas.{behind_fronts, fronts_in_front, fronts_pass, count_at, none_of_no_column}
 use Rattle.dr_agreement.proofs.BehindLemmas.{behind_nothing, behind_more, behind_chunk, none_behind, none_left_over, none_to_come}
 use Rattle.dr_columns.specs.Taken.{HasTaken, AreAlone, plan_paths}
-use Rattle.dr_columns.specs.Chunks.{nothing, AreForPlan, TakesFronts, HasTakenChunks, NoneGoesOn}
+use Rattle.dr_columns.specs.Chunks.{nothing, AreForPlan, TakesFronts, HasTakenChunks, NoneGoesOn, IsLent}
 use Rattle.dr_columns.specs.declared.chunks.Chunks.{Chunks}
 use Rattle.dr_columns.specs.declared.column_scan.ColumnScan.{ColumnScan}
 use Rattle.dr_columns.proofs.TakenLemmas.{scan_in_order}
@@ -125,30 +126,52 @@ more_behind s p rows given now R xs ys left k more h n l goes_on g m same =
     let c = paths_count p in
     behind_more s.fields (plan_paths p) rows given (here_of xs) now (here_of ys) (ends_of xs) (ends_of ys) R left k more h g m (omega (arith, l, n, c)) goes_on same
 
-pub more_taken : (s : Schema) (p : Plan) (rows : ℕ) (given now : Left) (R : List Node) (x : Chunks) (k : ℕ) (old y : AtHand) (vs : Vec AtHand Global) (more : List Triplet) (r : Result (Unit {0}) NoMemory) → HasTakenChunks s p rows given R x
-    → k < length x.leaves.items → old ≡ get_or x.leaves.items k old → vs.items ≡ slice_set x.leaves.items k y → Adds (rest_of old) (rest_of y) more r → ends_of x.leaves.items k ≡ false → IsMore k more given now
-    → OnOk r (HasTakenChunks s p rows now R (record { leaves = vs; tests = x.tests; records = x.records; scan = x.scan }))
-more_taken s p rows given now R x k old y vs more (Err e) h l is set adds goes_on g = tt
-more_taken s p rows given now R x k old y vs more (Ok done) h l is set adds goes_on g = record {
-  behind = subst (λ (ys : List AtHand). IsBehind s.fields (plan_paths p) rows now (here_of ys) (ends_of ys) R x.records) (sym set)
-      (more_behind s p rows given now R x.leaves.items (slice_set x.leaves.items k y) x.records k more h.behind h.for_plan.as_many l goes_on g
-      (here_set x.leaves.items k y l ∙ (adds ∙ ap (λ (ts : List Triplet). ts ++ more) (sym (here_there x.leaves.items k old l is))), λ i d. here_others x.leaves.items k i y d) (λ i d. end_others x.leaves.items k i y d));
-  taken = h.taken;
+length_set : (xs : List AtHand) (k : ℕ) (y : AtHand) → length (slice_set xs k y) ≡ length xs
+length_set [] k y = refl
+length_set (x ∷ xs) zero y = refl
+length_set (x ∷ xs) (suc k) y = ap suc (length_set xs k y)
+
+-- what is at hand of a leaf is lent
+pub lent_now : (x : Chunks) (k : ℕ) (old y : AtHand) (vs : Vec AtHand Global) (ts : List Triplet) (r : Result Kept NoMemory) → k < length x.leaves.items → old ≡ get_or x.leaves.items k old → vs.items ≡ slice_set x.leaves.items k y
+    → OnOk r (ts ≡ rest_of old) → IfOk r (IsKept (rest_of old)) → OnOk r (rest_of y ≡ []) → y.ended ≡ old.ended → form_of y ≡ form_of old → IfOk r (λ kept. IsLent k ts kept x (record { leaves = vs; tests = x.tests; records = x.records; scan = x.scan }))
+lent_now x k old y vs ts (Err e) l is set triplets kept none ended form = tt
+lent_now x k old y vs ts (Ok n) l is set triplets kept none ended form =
+    let xs = x.leaves.items in
+    record {
+      triplets = triplets ∙ sym (here_there xs k old l is);
+      is_kept = subst (λ (us : List Triplet). IsKept us n) (sym triplets) kept;
+      none = ap (λ (ys : List AtHand). here_of ys k) set ∙ (here_set xs k y l ∙ none);
+      others = λ i d. ap (λ (ys : List AtHand). here_of ys i) set ∙ here_others xs k i y d;
+      ends = λ i. ap (λ (ys : List AtHand). ends_of ys i) set ∙ ap (λ (bs : List Bool). get_or bs i false) (map-set_same (λ (v : AtHand). v.ended) xs k y old (ended ∙ ap (λ (v : AtHand). v.ended) is));
+      forms = ap (map form_of) set ∙ map-set_same form_of xs k y old (form ∙ ap form_of is);
+      scan = (refl, refl, refl);
+    }
+
+-- it is taken back with more behind it
+pub lent_back : (s : Schema) (p : Plan) (rows : ℕ) (given now : Left) (R : List Node) (x y : Chunks) (k : ℕ) (before more : List Triplet) (kept : Kept) (z : AtHand) (vs : Vec AtHand Global) → HasTakenChunks s p rows given R x → IsLent k before kept x y
+    → k < length y.leaves.items → vs.items ≡ slice_set y.leaves.items k z → rest_of z ≡ before ++ more → ends_of x.leaves.items k ≡ false → IsMore k more given now
+    → HasTakenChunks s p rows now R (record { leaves = vs; tests = y.tests; records = y.records; scan = y.scan })
+lent_back s p rows given now R x y k before more kept z vs h lent l set rest goes_on g = record {
+  behind = subst (λ (zs : List AtHand). IsBehind s.fields (plan_paths p) rows now (here_of zs) (ends_of zs) R y.records) (sym set)
+      (subst (λ (n : ℕ). IsBehind s.fields (plan_paths p) rows now (here_of back) (ends_of back) R n) (sym lent.scan.1)
+      (more_behind s p rows given now R x.leaves.items back x.records k more h.behind h.for_plan.as_many (omega (arith, l, as_many)) goes_on g
+      (here_set ys k z l ∙ (rest ∙ ap (λ (ts : List Triplet). ts ++ more) lent.triplets), λ i d. here_others ys k i z d ∙ lent.others i d) (λ i d. end_others ys k i z d ∙ lent.ends i)));
+  taken = subst (HasTaken s p R) (sym lent.scan.0) h.taken;
   for_plan = record {
     of_schema = h.for_plan.of_schema;
-    as_many = ap length set ∙ (length_set x.leaves.items k y ∙ h.for_plan.as_many);
-    are_tests = h.for_plan.are_tests;
+    as_many = ap length set ∙ (length_set ys k z ∙ (as_many ∙ h.for_plan.as_many));
+    are_tests = subst (λ (v : Vec LeafTest Global). AreTestsOf (plan_leaves p) v.items) (sym lent.scan.2) h.for_plan.are_tests;
   };
 }
   where
-    length_set : (xs : List AtHand) (k : ℕ) (y : AtHand) → length (slice_set xs k y) ≡ length xs
-    length_set [] k y = refl
-    length_set (x ∷ xs) zero y = refl
-    length_set (x ∷ xs) (suc k) y = ap suc (length_set xs k y)
+    ys : List AtHand
+    ys = y.leaves.items
 
-pub ended_now : (xs : List AtHand) (k : ℕ) (y : AtHand) (ended : Bool) (r : Result (Unit {0}) NoMemory) → k < length xs → OnOk r (y.ended ≡ ended) → OnOk r (ends_of (slice_set xs k y) k ≡ ended)
-ended_now xs k y ended (Err e) l h = tt
-ended_now xs k y ended (Ok done) l h = end_set xs k y l ∙ h
+    back : List AtHand
+    back = slice_set y.leaves.items k z
+
+    as_many : length y.leaves.items ≡ length x.leaves.items
+    as_many = sym (length-map y.leaves.items form_of) ∙ (ap length lent.forms ∙ length-map x.leaves.items form_of)
 
 -- ---- columns that are each alone one of so many records
 

@@ -1,5 +1,5 @@
 -- A scan over columns, chunk by chunk.
-use Rattle.std.specs.Prelude.{◌≡◌, ◌<◌, ⊤, ℕ, List, [], ◌++◌, map, length, Bool, true, false, Option, Some, None, Result, Ok, Err}
+use Rattle.std.specs.Prelude.{◌≡◌, ◌≢◌, ◌<◌, ⊤, ℕ, List, [], ◌++◌, map, length, Bool, true, false, Option, Some, None, Result, Ok, Err}
 use Rattle.std.specs.declared.alloc.Global.{Global}
 use Rattle.std.specs.declared.vec.Vec.{Vec}
 use Rattle.dr_meaning.specs.Schema.{Schema}
@@ -12,9 +12,10 @@ use Rattle.dr_plan.specs.Planned.{IsOfSchema, plan_leaves}
 use Rattle.dr_plan.specs.declared.plan.Plan.{Plan}
 use Rattle.dr_beside.specs.Chunks.{HasColumns, NoneHas}
 use Rattle.dr_agreement.specs.Alone.{AreTestsOf}
-use Rattle.dr_agreement.specs.AtHand.{here_of, ends_of, whole_at, AreFronts}
+use Rattle.dr_agreement.specs.AtHand.{here_of, ends_of, form_of, whole_at, AreFronts, IsKept}
 use Rattle.dr_agreement.specs.Behind.{GoesOn, IsBehind}
 use Rattle.dr_agreement.specs.declared.at_hand.AtHand.{AtHand}
+use Rattle.dr_agreement.specs.declared.at_hand.Kept.{Kept}
 use Rattle.dr_agreement.specs.declared.column_of_leaf.LeafTest.{LeafTest}
 use Rattle.dr_columns.specs.Taken.{HasTaken, plan_paths}
 use Rattle.dr_columns.specs.declared.chunks.Chunks.{Chunks}
@@ -53,6 +54,16 @@ pub record BeginsFor (s : Schema) (p : Plan) (xs : List AtHand) (y : ColumnScan)
   pub as_many : length xs ≡ length (plan_leaves p)
   pub none : (i : ℕ) → here_of xs i ≡ []
   pub taken : HasTaken s p [] y
+
+-- what is at hand of a leaf is lent, these triplets: nothing is at hand of it, and all else is as it was
+pub record IsLent (leaf : ℕ) (ts : List Triplet) (kept : Kept) (x y : Chunks) : Type 0 where
+  pub triplets : ts ≡ here_of x.leaves.items leaf
+  pub is_kept : IsKept ts kept
+  pub none : here_of y.leaves.items leaf ≡ []
+  pub others : (i : ℕ) → i ≢ leaf → here_of y.leaves.items i ≡ here_of x.leaves.items i
+  pub ends : (i : ℕ) → ends_of y.leaves.items i ≡ ends_of x.leaves.items i
+  pub forms : map form_of y.leaves.items ≡ map form_of x.leaves.items
+  pub scan : (y.scan ≡ x.scan) × (y.records ≡ x.records) × (y.tests ≡ x.tests)
 
 -- all is taken, and nothing comes later
 abbrev pub IsAllTaken : Plan → Chunks → Type 0

@@ -1,11 +1,12 @@
 //! Chunks of whole records, of what is at hand of the columns of a plan's leaves.
 
-ghost use Rattle.std.specs.Prelude.{◌≡◌, ◌≢◌, ◌<◌, ◌≤◌, ◌⊎◌, [], ℕ, List, length, map, get_or, false, IfOk, OnOk};
+ghost use Rattle.std.specs.Prelude.{◌≡◌, ◌≢◌, ◌<◌, ◌≤◌, ◌⊎◌, ◌++◌, [], ℕ, List, length, map, get_or, false, IfOk};
 ghost use Rattle.dr_meaning.specs.Schema.{Schema};
 ghost use Rattle.dr_meaning.specs.Record.{Node};
-ghost use Rattle.dr_levels.specs.Views.{triplets_form, triplets_view};
+ghost use Rattle.dr_meaning.specs.Column.{Triplet};
+ghost use Rattle.dr_levels.specs.Views.{column_form, column_view};
 ghost use Rattle.dr_moves.specs.Leading.{Left};
-ghost use Rattle.dr_agreement.specs.AtHand.{ends_of, form_of, whole_at};
+ghost use Rattle.dr_agreement.specs.AtHand.{ends_of, form_of, whole_at, CanPass};
 ghost use Rattle.dr_agreement.specs.Behind.{IsMore};
 ghost use Rattle.dr_partials.specs.Partials.{partial_of};
 ghost use Rattle.dr_plan.specs.Planned.{plan_view, planned_query};
@@ -14,11 +15,11 @@ ghost use Rattle.dr_plan.specs.declared.plan.Plan.{Plan as MeantPlan};
 
 use crate::column_scan::ColumnScan;
 use dr_agreement::{
-    Alone, AtHand, LeafTest, all_passed, each_alone, fronts_of, least_whole, lengths_of, pass_each,
-    tests_of, wanting,
+    Alone, AtHand, Kept, LeafTest, all_passed, each_alone, fronts_of, least_whole, lengths_of,
+    pass_each, tests_of, wanting,
 };
 use dr_group::Partial;
-use dr_levels::Triplets;
+use dr_levels::Column;
 use dr_memory::NoMemory;
 use dr_plan::Plan;
 use std::alloc::Global;
@@ -54,7 +55,8 @@ pub struct Chunks<'p> {
 }
 
 ghost use Rattle.dr_columns.specs.Taken.{HasTaken};
-ghost use Rattle.dr_columns.specs.Chunks.{nothing, AreForPlan, TakesFronts, HasTakenChunks, CanStep, BeginsFor, ComesTo};
+ghost use Rattle.dr_columns.specs.Chunks.{nothing, AreForPlan, TakesFronts, HasTakenChunks, CanStep, BeginsFor, ComesTo, IsLent};
+ghost use Rattle.dr_columns.specs.declared.chunks.Chunks.{Chunks as MeantChunks};
 
 /// Takes the next so many records of what is at hand, and answers how many triplets of each leaf they have; none where
 /// no records have them.
@@ -173,20 +175,36 @@ impl<'p> Chunks<'p> {
         }
     }
 
-    /// More of a leaf at hand, and whether nothing comes behind it.
+    /// Lends what is at hand of a leaf, in the place of another column of the leaf, so that more joins it. Nothing is at
+    /// hand of the leaf until it is taken back.
     ///
-    /// Errors: want of memory, or of room: a column's texts have less than 4 GiB together.
-    pub fn add(&mut self, leaf: usize, more: Triplets<'_>, ended: bool) -> Result<(), NoMemory>
+    /// Errors: want of memory alone.
+    pub fn lend(&mut self, leaf: usize, out: &mut Column) -> Result<Kept, NoMemory>
         requires within { leaf < length (self.old).leaves.items }
-        requires form { triplets_form more ≡ get_or (map form_of (self.old).leaves.items) leaf (triplets_form more) }
-        ensures added { (s : Schema) (p : MeantPlan) (rows : ℕ) (given now : Left) (R : List Node)
-            → HasTakenChunks s p rows given R self.old → ends_of (self.old).leaves.items leaf ≡ false
-            → IsMore leaf (triplets_view more.entry) given now → OnOk result (HasTakenChunks s p rows now R self.new) }
-        ensures ended { OnOk result (ends_of (self.new).leaves.items leaf ≡ ended) }
+        requires form { column_form out.old ≡ get_or (map form_of (self.old).leaves.items) leaf (column_form out.old) }
+        ensures lent { IfOk result (λ kept. IsLent leaf (column_view out.new) kept self.old self.new) }
+        ensures form { column_form out.new ≡ column_form out.old }
+    {
+        self.leaves[leaf].lend(out)
+    }
+
+    /// Takes back what is at hand of a leaf, with more of the leaf behind it, and whether nothing comes behind that.
+    /// Another column of the leaf is in its place then.
+    pub fn take_back(&mut self, leaf: usize, column: &mut Column, kept: Kept, ended: bool)
+        requires within { leaf < length (self.old).leaves.items }
+        requires form { column_form column.old
+            ≡ get_or (map form_of (self.old).leaves.items) leaf (column_form column.old) }
+        requires kept { CanPass (column_view column.old) kept.triplets kept.begun }
+        ensures added { (s : Schema) (p : MeantPlan) (rows : ℕ) (given now : Left) (R : List Node) (x : MeantChunks)
+            (before more : List Triplet) → HasTakenChunks s p rows given R x → IsLent leaf before kept x self.old
+            → column_view column.old ≡ before ++ more → ends_of x.leaves.items leaf ≡ false
+            → IsMore leaf more given now → HasTakenChunks s p rows now R self.new }
+        ensures ended { ends_of (self.new).leaves.items leaf ≡ ended }
         ensures ends { (i : ℕ) → i ≢ leaf → ends_of (self.new).leaves.items i ≡ ends_of (self.old).leaves.items i }
         ensures forms { map form_of (self.new).leaves.items ≡ map form_of (self.old).leaves.items }
+        ensures form { column_form column.new ≡ column_form column.old }
     {
-        self.leaves[leaf].add(more, ended)
+        self.leaves[leaf].take_back(column, kept, ended);
     }
 
     /// The partial of the records that are taken.

@@ -219,6 +219,10 @@ outlined_short n r d ts c m = omega (arith, outline_shorter r d ts)
 pub nothing_joined : (old new more : List Triplet) → new ≡ old ++ more → length new ≤ length old → more ≡ []
 nothing_joined old new more e h = none_from more (omega (arith, ap length e ∙ length-append old more, h))
 
+-- a list begins with itself
+pub begins_same : (old new : List Triplet) → new ≡ old → BeginWith old new
+begins_same old new e = ([], e ∙ sym (append-nil old))
+
 -- ---- the leaf itself
 
 -- nothing more came of the leaf that is read

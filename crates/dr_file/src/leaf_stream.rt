@@ -58,6 +58,7 @@ impl<'f> LeafStream<'f> {
     ghost use Rattle.dr_outside.specs.Telling.{AsksOnly};
     ghost use Rattle.dr_outside.specs.Leaving.{LeavesLink, ServesUntil};
     ghost use Rattle.dr_chunk.specs.Ranges.{is_read_inside};
+    ghost use Rattle.dr_chunk.specs.Taking.{BeginWith};
     ghost use Rattle.dr_file.specs.ChunkPlaces.{all_values};
     ghost use Rattle.dr_file.specs.LeafColumns.{shown_range, IsShownLeaf};
     ghost use Rattle.dr_file.specs.LeafStreams.{path_of, footer_of, leaf_of, shown_chunks, left_of, stream_form, held_of, leaf_triplets, IsAt, GoesOn, OverLeafStream, OverToldLeaf, SpellsNone};
@@ -132,6 +133,7 @@ impl<'f> LeafStream<'f> {
         ensures count { IfOk result (λ n. length (column_view out.new) ≡ length (column_view out.old) + n) }
         ensures left { IfOk result (λ n. n + left_of self.new ≡ left_of self.old) }
         ensures batch { IfOk result (λ n. n ≤ 1024) }
+        ensures front { OnOk result (BeginWith (column_view out.old) (column_view out.new)) }
         ensures stays { OnErr result (column_view out.new ≡ column_view out.old) }
         ensures form { column_form out.new ≡ column_form out.old }
         ensures stream_form { stream_form self.new ≡ stream_form self.old }
@@ -200,6 +202,7 @@ impl<'f> LeafStream<'f> {
         ensures left { IfOk result (λ n. n + left_of self.new ≡ left_of self.old) }
         ensures batch { IfOk result (λ n. n ≤ 1024) }
         ensures some { IfOk result (λ n. 0 < n) }
+        ensures front { OnOk result (BeginWith (column_view out.old) (column_view out.new)) }
         ensures stays { OnErr result (column_view out.new ≡ column_view out.old) }
         ensures form { column_form out.new ≡ column_form out.old }
         ensures stream_form { stream_form self.new ≡ stream_form self.old }

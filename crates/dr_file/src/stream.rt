@@ -57,7 +57,7 @@ pub struct Stream<'f> {
 }
 
 impl<'f> Stream<'f> {
-    ghost use Rattle.std.specs.Prelude.{◌≢◌, ◌≤◌, ◌<◌, ◌∷◌, [], ℕ, List, length, false, Some, None, Ok, Err, IfOk, IfErr, OnErr};
+    ghost use Rattle.std.specs.Prelude.{◌≢◌, ◌≤◌, ◌<◌, ◌∷◌, [], ℕ, List, length, false, Some, None, Ok, Err, IfOk, IfErr, OnOk, OnErr};
     ghost use Rattle.dr_meaning.specs.Path.{Leaf, max_definition};
     ghost use Rattle.dr_meaning.specs.Column.{Triplet};
     ghost use Rattle.dr_formats.specs.File.{Footer, footer_of, most_triplets, bad_data};
@@ -66,6 +66,7 @@ impl<'f> Stream<'f> {
     ghost use Rattle.dr_outside.specs.Telling.{AsksOnly};
     ghost use Rattle.dr_outside.specs.Leaving.{LeavesLink, ServesUntil};
     ghost use Rattle.dr_chunk.specs.Ranges.{is_read_inside};
+    ghost use Rattle.dr_chunk.specs.Taking.{BeginWith};
     ghost use Rattle.dr_file.specs.Asking.{is_for_path, AsksForLeaves};
     ghost use Rattle.dr_file.specs.Fields.{nulls, outlined};
     ghost use Rattle.dr_file.specs.OpenedFiles.{IsColumnFault, leaf_count, path_of, OverLeafAt, OverLeafByFooter};
@@ -129,9 +130,10 @@ impl<'f> Stream<'f> {
             IfOk result (StreamGoesOn bytes l given (column_view out.old) (column_view out.new) self.new)) }
         ensures cause { OverStream (L.shows link.old) self.old (λ bytes l given.
             IfErr result (λ e. IsColumnFault e (leaf_cause bytes l))) }
-        // Whatever the bytes.
+        // Whatever the bytes: how many joined the column, which begins with what it was.
         ensures fills { IfOk result (λ some. Fills some (length (column_view out.old)) (length (column_view out.new))
             (left_of self.old) (left_of self.new)) }
+        ensures front { OnOk result (BeginWith (column_view out.old) (column_view out.new)) }
         ensures stays { OnErr result (column_view out.new ≡ column_view out.old) }
         ensures form { column_form out.new ≡ column_form out.old }
         ensures stream_form { stream_form self.new ≡ stream_form self.old }
@@ -186,6 +188,7 @@ impl<'f> Stream<'f> {
             result ≡ Err ChunkFault.BadData → leaf_cause bytes l ≡ Some bad_data) }
         ensures fills { IfOk result (λ some. Fills some (length (column_view out.old)) (length (column_view out.new))
             (left_of self.old) (left_of self.new)) }
+        ensures front { OnOk result (BeginWith (column_view out.old) (column_view out.new)) }
         ensures stays { OnErr result (column_view out.new ≡ column_view out.old) }
         ensures form { column_form out.new ≡ column_form out.old }
         ensures stream_form { stream_form self.new ≡ stream_form self.old }
@@ -219,6 +222,7 @@ impl<'f> Stream<'f> {
             result ≡ Err ChunkFault.BadData → leaf_cause bytes l ≡ Some bad_data) }
         ensures fills { IfOk result (λ some. Fills some (length (column_view out.old)) (length (column_view out.new))
             (left_of self.old) (left_of self.new)) }
+        ensures front { OnOk result (BeginWith (column_view out.old) (column_view out.new)) }
         ensures stays { OnErr result (column_view out.new ≡ column_view out.old) }
         ensures form { column_form out.new ≡ column_form out.old }
         ensures stream_form { stream_form self.new ≡ stream_form self.old }
@@ -241,6 +245,7 @@ impl<'f> Stream<'f> {
             → IfOk result (StreamGoesOn bytes l given (column_view out.old) (column_view out.new) self.new) }
         ensures fills { IfOk result (λ some. Fills some (length (column_view out.old)) (length (column_view out.new))
             (left_of self.old) (left_of self.new)) }
+        ensures front { OnOk result (BeginWith (column_view out.old) (column_view out.new)) }
         ensures stays { OnErr result (column_view out.new ≡ column_view out.old) }
         ensures form { column_form out.new ≡ column_form out.old }
         ensures stream_form { stream_form self.new ≡ stream_form self.old }
@@ -275,6 +280,7 @@ impl<'f> Stream<'f> {
             result ≡ Err ChunkFault.BadData → leaf_cause bytes l ≡ Some bad_data) }
         ensures fills { IfOk result (λ some. Fills some (length (column_view out.old)) (length (column_view out.new))
             (left_of self.old) (left_of self.new)) }
+        ensures front { OnOk result (BeginWith (column_view out.old) (column_view out.new)) }
         ensures stays { OnErr result (column_view out.new ≡ column_view out.old) }
         ensures form { column_form out.new ≡ column_form out.old }
         ensures stream_form { stream_form self.new ≡ stream_form self.old }

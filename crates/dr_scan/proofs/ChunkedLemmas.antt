@@ -1,19 +1,19 @@
 -- The columns of a file's leaves side by side, chunk by chunk: the beginning, a batch more, the end, and what is no record's.
 use Rattle.std.proofs.Common.{◌≡◌, ◌≢◌, ◌<◌, ◌+◌, ℕ, zero, suc, List, [], ◌∷◌, ◌++◌, length, map, take, get_or, Bool, true, false, Option, Some, refl, sym, ap, ap₂, subst, ◌∙◌, true≢false, arith}
-use Rattle.std.specs.Prelude.{◌==◌, Result, Ok, Err, OnOk, slice_set}
+use Rattle.std.specs.Prelude.{◌==◌, slice_set}
 use Rattle.std.specs.List.{slice_get}
 use Rattle.std.proofs.Math.Seq.{map-set_same}
 use Rattle.std.proofs.lemmas.Option.{get_or_from_slice_get}
 use Rattle.std.proofs.lemmas.Bool.{eqb-true, ne_eqb}
 use Rattle.std.proofs.lemmas.Bool.Decides.{nat_tests}
 use Rattle.std.proofs.lemmas.List.{get_or-map, length-map, map_push, map_more}
-use Rattle.dr_meaning.specs.Schema.{Schema}
+use Rattle.dr_meaning.specs.Schema.{Schema, Fields}
+use Rattle.dr_meaning.specs.WalkLaws as walks
 use Rattle.dr_meaning.specs.Path.{Step, Leaf}
 use Rattle.dr_meaning.specs.Record.{Node}
 use Rattle.dr_meaning.specs.Column.{Triplet, column}
 use Rattle.dr_formats.specs.File.{HasCause, bad_data}
 use Rattle.dr_formats.specs.Writing.{triplet_count}
-use Rattle.dr_memory.specs.declared.NoMemory.{NoMemory}
 use Rattle.dr_levels.specs.Views.{LeafForm, column_form, column_view}
 use Rattle.dr_outside.specs.Link.{Files}
 use Rattle.dr_moves.specs.Leading.{Left}
@@ -24,31 +24,26 @@ use Rattle.dr_file.specs.declared.opened.Opened.{Opened}
 use Rattle.dr_plan.specs.Planned.{plan_leaves, plan_view, planned_query}
 use Rattle.dr_plan.specs.declared.plan.Plan.{Plan}
 use Rattle.dr_table.specs.Counting.{counted}
-use Rattle.dr_scan.specs.FileRecords.{AreLeavesOf}
+use Rattle.dr_scan.specs.FileRecords.{AreLeavesOf, IsFaultOf, assemble_fault}
+use Rattle.dr_walk.specs.declared.fault.AssembleFault.{AssembleFault}
 use Rattle.dr_walk.specs.Batches.{is_last}
 use Rattle.dr_agreement.specs.AtHand as hand
 use Rattle.dr_agreement.specs.Behind.{IsMore}
 use Rattle.dr_agreement.specs.declared.at_hand.AtHand.{AtHand}
+use Rattle.dr_agreement.specs.declared.at_hand.Kept.{Kept}
 use Rattle.dr_agreement.proofs.BehindLemmas.{behind_all}
-use Rattle.dr_columns.specs.Chunks.{HasTakenChunks, IsAllTaken, NoneGoesOn}
+use Rattle.dr_columns.specs.Chunks.{HasTakenChunks, IsAllTaken, IsLent, NoneGoesOn}
 use Rattle.dr_columns.specs.Taken.{plan_paths}
 use Rattle.dr_columns.specs.declared.chunks.Chunks.{Chunks}
 use Rattle.dr_columns.proofs.StepLemmas.{paths_count}
-use Rattle.dr_scan.specs.Chunked.{batch_forms, hand_forms, AreOfStreams}
-use Rattle.dr_scan.specs.Streamed.{batch_at, ends_of, IsTold, AreLeafStreams, AreRefilled, with_more, with_batch, NoneBegins, IsOfOpened}
+use Rattle.dr_scan.specs.Chunked.{batch_forms, hand_forms, same_streams, AreOfStreams, IsChunked}
+use Rattle.dr_scan.specs.Streamed.{batch_at, ends_of, IsTold, AreLeafStreams, AreReadOn, with_more, NoneBegins, IsOfOpened}
 use Rattle.dr_scan.specs.declared.leaf_stream.LeafStream.{LeafStream}
 use Rattle.dr_scan.specs.declared.opened.Made.{Made}
-use Rattle.dr_scan.proofs.FileLemmas.{whole_opened, streamed_bad}
+use Rattle.dr_scan.proofs.FileLemmas.{whole_opened, streamed_bad, walk_fault}
+use Rattle.dr_scan.proofs.HandingLemmas.{batch_set, same_ends, same_leaf_streams}
+use Rattle.dr_scan.proofs.RestLemmas.{counted_given, given_counted}
 use Rattle.dr_scan.proofs.Tabulated.{tabulated, tabulated_count}
-
--- the streams gave these triplets of an opened file's columns, of which the columns of some records were taken
-pub record IsChunked (s : Schema) (p : Plan) (held : Option Files) (o : Opened) (xs : List LeafStream) (x : Chunks) (read : ℕ) : Type 0 where
-  pub given : Left
-  pub records : List Node
-  pub streams : AreLeafStreams held o (plan_leaves p) given xs
-  pub taken : HasTakenChunks s p (rows_of o) given records x
-  pub of_streams : AreOfStreams xs x
-  pub count : read ≡ counted 0 (triplet_count (tabulated (length (plan_leaves p)) given))
 
 -- ---- streams by their numbers
 
@@ -67,11 +62,17 @@ batch_here xs k x l e = get_or-map batch_of xs k x [] l ∙ ap batch_of (sym e)
 pub form_here : (xs : List LeafStream) (k : ℕ) (x : LeafStream) (d : LeafForm) → k < length xs → x ≡ get_or xs k x → get_or (batch_forms xs) k d ≡ column_form x.batch
 form_here xs k x d l e = get_or-map batch_form xs k x d l ∙ ap batch_form (sym e)
 
-end_here : (xs : List LeafStream) (k : ℕ) (x : LeafStream) → k < length xs → x ≡ get_or xs k x → is_last (ends_of xs) k ≡ x.ended
+pub end_here : (xs : List LeafStream) (k : ℕ) (x : LeafStream) → k < length xs → x ≡ get_or xs k x → is_last (ends_of xs) k ≡ x.ended
 end_here xs k x l e = get_or-map is_ended xs k x false l ∙ ap is_ended (sym e)
 
 pub leaves_count : (xs : List LeafStream) (x : Chunks) → hand_forms x ≡ batch_forms xs → length x.leaves.items ≡ length xs
 leaves_count xs x e = sym (length-map x.leaves.items hand.form_of) ∙ (ap length e ∙ length-map xs batch_form)
+
+pub hands_same : (x y : Chunks) → hand_forms y ≡ hand_forms x → length y.leaves.items ≡ length x.leaves.items
+hands_same x y e = sym (length-map y.leaves.items hand.form_of) ∙ (ap length e ∙ length-map x.leaves.items hand.form_of)
+
+pub streams_count : (xs ys : List LeafStream) → batch_forms ys ≡ batch_forms xs → length ys ≡ length xs
+streams_count xs ys e = sym (length-map ys batch_form) ∙ (ap length e ∙ length-map xs batch_form)
 
 -- ---- a batch more
 
@@ -81,44 +82,57 @@ itself a b q = grind (arith, nat_tests)
 apart : (i k : ℕ) → (i == k) ≡ false → i ≢ k
 apart i k z q = true≢false (itself i k q ∙ z)
 
-pub of_streams_now : (ys : List LeafStream) (x y : Chunks) (k : ℕ) (t : LeafStream) (r : Result (Unit {0}) NoMemory) → k < length ys → t ≡ get_or ys k t → hand_forms x ≡ batch_forms ys → hand_forms y ≡ hand_forms x
-    → OnOk r (hand.ends_of y.leaves.items k ≡ t.ended) → ((i : ℕ) → i ≢ k → hand.ends_of y.leaves.items i ≡ hand.ends_of x.leaves.items i)
-    → ((i : ℕ) → i ≢ k → hand.ends_of x.leaves.items i ≡ true → is_last (ends_of ys) i ≡ true) → OnOk r (AreOfStreams ys y)
-of_streams_now ys x y k t (Err e) l is forms same ended others ends = tt
-of_streams_now ys x y k t (Ok done) l is forms same ended others ends = record { forms = same ∙ forms; ends = λ i z. by_leaf i (i == k) refl z }
-  where
-    by_leaf : (i : ℕ) (b : Bool) → (i == k) ≡ b → hand.ends_of y.leaves.items i ≡ true → is_last (ends_of ys) i ≡ true
-    by_leaf i true q z = subst (λ (j : ℕ). is_last (ends_of ys) j ≡ true) (sym (eqb-true i k q))
-        (end_here ys k t l is ∙ (sym ended ∙ (ap (hand.ends_of y.leaves.items) (sym (eqb-true i k q)) ∙ z)))
-    by_leaf i false q z = ends i (apart i k q) (sym (others i (apart i k q)) ∙ z)
-
 with_here : (k : ℕ) (more : List Triplet) (f : Left) → with_more k more f k ≡ f k ++ more
 with_here k more f = rw (sym (itself k k refl)) refl
 
 with_others : (k : ℕ) (more : List Triplet) (f : Left) (i : ℕ) → i ≢ k → with_more k more f i ≡ f i
 with_others k more f i d = rw (ne_eqb i k d) refl
 
-batch_same : (k : ℕ) (more : List Triplet) (f : Left) → with_batch k more f k ≡ more
-batch_same k more f = rw (sym (itself k k refl)) refl
+is_more : (k : ℕ) (more : List Triplet) (f : Left) → IsMore k more f (with_more k more f)
+is_more k more f = (with_here k more f, λ i d. with_others k more f i d)
 
--- what the stream gave more is its batch
-pub more_given : (held : Option Files) (o : Opened) (F : List Leaf) (given : Left) (k : ℕ) (xs ys : List LeafStream) (count : ℕ) → (a : AreRefilled held o F given k xs ys count) → IsMore k (batch_at ys k) given (with_more k a.more given)
-more_given held o F given k xs ys count a = subst (λ (ts : List Triplet). IsMore k ts given (with_more k a.more given)) (sym (a.here k ∙ batch_same k a.more (batch_at xs)))
-    (with_here k a.more given, λ i d. with_others k a.more given i d)
+-- a leaf is lent to its stream, of the same leaf
+pub lent_form : (xs : List LeafStream) (x : Chunks) (k : ℕ) (u : LeafStream) → hand_forms x ≡ batch_forms xs → k < length xs → u ≡ get_or xs k u → column_form u.batch ≡ get_or (hand_forms x) k (column_form u.batch)
+lent_form xs x k u forms l is = sym (ap (λ (fs : List LeafForm). get_or fs k (column_form u.batch)) forms ∙ form_here xs k u (column_form u.batch) l is)
 
-pub reads_on : (s : Schema) (p : Plan) (held : Option Files) (o : Opened) (given : Left) (R : List Node) (xs ys : List LeafStream) (y : Chunks) (k read count now : ℕ) → read ≡ counted 0 (triplet_count (tabulated (length (plan_leaves p)) given))
-    → (a : AreRefilled held o (plan_leaves p) given k xs ys count) → k < length (plan_leaves p) → now ≡ counted read count → HasTakenChunks s p (rows_of o) (with_more k a.more given) R y → AreOfStreams ys y → IsChunked s p held o ys y now
-reads_on s p held o given R xs ys y k read count now e a l q h of_streams = record {
-  given = with_more k a.more given;
-  records = R;
-  streams = a.streams;
-  taken = h;
-  of_streams = of_streams;
-  count =
-      let c = tabulated_count (length (plan_leaves p)) k a.more given (with_more k a.more given) l (with_here k a.more given) (λ i d. with_others k a.more given i d) in
-      let m = a.so_many in
-      omega (arith, q, e, c, m);
+-- what the stream gave joined what was lent
+pub lent_joined : (held : Option Files) (xs ys : List LeafStream) (k n : ℕ) (u v : LeafStream) (a : AreReadOn held k (slice_set xs k u) ys n) → k < length xs → k < length ys → v ≡ get_or ys k v → column_view v.batch ≡ column_view u.batch ++ a.more
+lent_joined held xs ys k n u v a l m is = sym (batch_here ys k v m is) ∙ (a.here k ∙ (with_here k a.more (batch_at (slice_set xs k u)) ∙ ap (λ (ts : List Triplet). ts ++ a.more) (batch_set xs k u l)))
+
+-- a leaf has more at hand, which its stream gave
+pub more_chunked : (s : Schema) (p : Plan) (held : Option Files) (o : Opened) (xs us ys zs : List LeafStream) (x x1 x2 : Chunks) (k read n : ℕ) (before : List Triplet) (kept : Kept) (h : IsChunked s p held o xs x read) → same_streams us ≡ same_streams xs
+    → IsLent k before kept x x1 → (a : AreReadOn held k us ys n) → same_streams zs ≡ same_streams ys → batch_forms zs ≡ batch_forms xs → k < length xs → ((now : Left) → IsMore k a.more h.given now → HasTakenChunks s p (rows_of o) now h.records x2)
+    → hand.ends_of x2.leaves.items k ≡ is_last (ends_of ys) k → ((i : ℕ) → i ≢ k → hand.ends_of x2.leaves.items i ≡ hand.ends_of x1.leaves.items i) → hand_forms x2 ≡ hand_forms x1 → IsChunked s p held o zs x2 (counted read n)
+more_chunked s p held o xs us ys zs x x1 x2 k read n before kept h lent_same lent a back_same forms l added ended ends same = record {
+  given = given;
+  records = h.records;
+  streams = same_leaf_streams held o (plan_leaves p) given ys zs (a.streams o (plan_leaves p) h.given (same_leaf_streams held o (plan_leaves p) h.given xs us h.streams lent_same)) back_same;
+  taken = taken;
+  of_streams = record {
+    forms = same ∙ (lent.forms ∙ (h.of_streams.forms ∙ sym forms));
+    ends = λ i z. ap (λ (bs : List Bool). is_last bs i) (same_ends ys zs back_same) ∙ by_leaf i (i == k) refl z;
+  };
+  count = counted_given m given (counted read n)
+      (let c = tabulated_count m k a.more h.given given (omega (arith, l, h.streams.as_many)) (with_here k a.more h.given) (λ i d. with_others k a.more h.given i d) in
+      let q = given_counted m h.given read (λ i b. h.taken.behind.past i (let j = paths_count p in omega (arith, j, b))) h.count in
+      let e = a.so_many in
+      omega (arith, c, q, e));
 }
+  where
+    m : ℕ
+    m = length (plan_leaves p)
+
+    given : Left
+    given = with_more k a.more h.given
+
+    taken : HasTakenChunks s p (rows_of o) given h.records x2
+    taken = added given (is_more k a.more h.given)
+
+    by_leaf : (i : ℕ) (b : Bool) → (i == k) ≡ b → hand.ends_of x2.leaves.items i ≡ true → is_last (ends_of ys) i ≡ true
+    by_leaf i true q z = subst (λ (j : ℕ). is_last (ends_of ys) j ≡ true) (sym (eqb-true i k q)) (sym ended ∙ (ap (hand.ends_of x2.leaves.items) (sym (eqb-true i k q)) ∙ z))
+    by_leaf i false q z =
+        let d = apart i k q in
+        a.ends i d ∙ (ap (λ (bs : List Bool). is_last bs i) (same_ends xs us lent_same) ∙ h.of_streams.ends i (sym (lent.ends i) ∙ (sym (ends i d) ∙ z)))
 
 -- ---- the end
 
@@ -179,11 +193,20 @@ none_ends xs x vs e f ends = record {
 pub same_form : (xs : List LeafStream) (k : ℕ) (x y : LeafStream) → slice_get xs k ≡ Some x → column_form y.batch ≡ column_form x.batch → batch_forms (slice_set xs k y) ≡ batch_forms xs
 same_form xs k x y there e = map-set_same batch_form xs k y x (e ∙ ap batch_form (sym (get_or_from_slice_get xs k x x there)))
 
-pub hands_count : (xs : List LeafStream) (vs : List AtHand) → map hand.form_of vs ≡ batch_forms xs → length vs ≡ length xs
-hands_count xs vs e = sym (length-map vs hand.form_of) ∙ (ap length e ∙ length-map xs batch_form)
+-- ---- a step
 
--- ---- what is the same
+-- leaves of a schema, one after another
+pub leaves_each : (fs : Fields) (F : List Leaf) → walks.AreLeavesOf fs F → AreLeavesOf fs F
+leaves_each fs [] h = tt
+leaves_each fs (l ∷ F) h = (h 0 l refl, leaves_each fs F (λ i m e. h (suc i) m e))
 
-pub chunked_seen : (s : Schema) (p : Plan) (held : Option Files) (o : Opened) (xs ys : List LeafStream) (x y : Chunks) (read now : ℕ) → ys ≡ xs → y ≡ x → now ≡ read → IsChunked s p held o xs x read → IsChunked s p held o ys y now
-chunked_seen s p held o xs ys x y read now e q r h =
-    subst (λ (zs : List LeafStream). IsChunked s p held o zs y now) (sym e) (subst (λ (z : Chunks). IsChunked s p held o xs z now) (sym q) (subst (λ (n : ℕ). IsChunked s p held o xs x n) (sym r) h))
+-- it took some records, or none
+pub stepped : (s : Schema) (p : Plan) (held : Option Files) (o : Opened) (xs : List LeafStream) (x y : Chunks) (read : ℕ) (R : List Node) (h : IsChunked s p held o xs x read) → HasTakenChunks s p (rows_of o) h.given R y → hand_forms y ≡ hand_forms x
+    → ((i : ℕ) → hand.ends_of y.leaves.items i ≡ hand.ends_of x.leaves.items i) → IsChunked s p held o xs y read
+stepped s p held o xs x y read R h taken forms ends = record { given = h.given; records = R; streams = h.streams; taken = taken; of_streams = still_of_streams xs x y forms ends h.of_streams; count = h.count }
+
+-- no records have columns that begin so
+pub none_stepped : (s : Schema) (p : Plan) (held : Option Files) (o : Opened) (xs : List LeafStream) (x y : Chunks) (read : ℕ) (h : IsChunked s p held o xs x read) → NoneGoesOn s p (rows_of o) h.given (hand.ends_of y.leaves.items) → hand_forms y ≡ hand_forms x
+    → ((i : ℕ) → hand.ends_of y.leaves.items i ≡ hand.ends_of x.leaves.items i) → (bytes : List ℕ) → IsTold held o (plan_leaves p) bytes → IsFaultOf bytes s (plan_leaves p) (assemble_fault AssembleFault.BadData)
+none_stepped s p held o xs x y read h none forms ends bytes told =
+    walk_fault bytes s (plan_leaves p) AssembleFault.BadData (λ e. chunked_bad bytes s p held o h.given h.records xs x y told (leaves_each s.fields (plan_leaves p) h.taken.for_plan.of_schema) h.streams h.taken (still_of_streams xs x y forms ends h.of_streams) none)

@@ -38,7 +38,7 @@ use Rattle.dr_scan.specs.declared.leaf_stream.LeafStream.{LeafStream}
 use Rattle.dr_scan.specs.declared.rest.Rest.{Rest}
 use Rattle.dr_scan.proofs.StreamLemmas.{batch_past, stream_there}
 
-batch_set : (xs : List LeafStream) (i : ℕ) (y : LeafStream) → i < length xs → batch_at (slice_set xs i y) i ≡ column_view y.batch
+pub batch_set : (xs : List LeafStream) (i : ℕ) (y : LeafStream) → i < length xs → batch_at (slice_set xs i y) i ≡ column_view y.batch
 batch_set [] i y h = absurd (omega (arith, h))
 batch_set (x ∷ xs) zero y h = refl
 batch_set (x ∷ xs) (suc i) y h = batch_set xs i y (omega (arith, h))

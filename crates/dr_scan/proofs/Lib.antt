@@ -30,10 +30,12 @@ pub mod FrontLemmas
 pub mod RestLemmas
 -- stretch by stretch
 pub mod UnderwayLemmas
--- chunk by chunk
-pub mod ChunkedLemmas
+-- what reading leaves asks of a link
+pub mod ServedLemmas
 -- what is at hand, handed over to the streams
 pub mod HandingLemmas
+-- chunk by chunk
+pub mod ChunkedLemmas
 -- the copies of one tablet
 pub mod TabletLemmas
 -- the truth of tablets

@@ -1,10 +1,10 @@
 -- The streams of a file's leaves and the walk over their batches: the beginning, fewer triplets left, a batch more, and what all batches are.
 use Rattle.std.proofs.Common.{◌≡◌, ◌≢◌, ◌<◌, ◌≤◌, ◌+◌, ◌-◌, ◌⊎◌, inl, inr, ℕ, zero, suc, List, [], ◌∷◌, ◌++◌, length, map, drop, get_or, Bool, true, false, Option, Some, None, refl, sym, ap, ap₂, subst, ◌∙◌, append-nil, append_assoc, length-append, true≢false, arith}
-use Rattle.std.specs.Prelude.{◌==◌, not, nat_lt, if◌then◌else◌, option_map, unwrap_or, slice_set}
+use Rattle.std.specs.Prelude.{◌==◌, not, nat_lt, if◌then◌else◌, option_map, unwrap_or, slice_set, Result, Ok, Err, IfOk}
 use Rattle.std.specs.List.{slice_get}
 use Rattle.std.proofs.lemmas.Bool.{eqb-true, ne_eqb, cases_lt}
 use Rattle.std.proofs.lemmas.Bool.Decides.{nat_tests}
-use Rattle.std.proofs.lemmas.List.{get_or_past, get_or_push, get_or_append_left, map_push, length-map, length-drop, drop-drop, nil_from_length}
+use Rattle.std.proofs.lemmas.List.{get_or_past, get_or_push, get_or_append_left, map_push, length-map, length-drop, drop-drop, nil_from_length, append_cancel_left}
 use Rattle.std.proofs.lemmas.Option.{slice_get-map, slice_get_within, slice_get_cases, get_or_from_slice_get, unwrap_or-slice_get}
 use Rattle.dr_meaning.specs.Schema.{Schema}
 use Rattle.dr_meaning.specs.Path.{Leaf, paths_of_leaves}
@@ -14,7 +14,10 @@ use Rattle.dr_levels.specs.Views.{column_view, triplets_view}
 use Rattle.dr_levels.specs.declared.triplets.Triplets.{Triplets}
 use Rattle.dr_outside.specs.Link.{Files}
 use Rattle.dr_moves.specs.Leading.{Left, columns_of}
+use Rattle.dr_chunk.specs.Taking.{BeginWith}
 use Rattle.dr_file.specs.OpenedFiles.{IsColumnOf}
+use Rattle.dr_file.specs.declared.file_fault.FileFault.{FileFault}
+use Rattle.dr_scan.proofs.ColumnsLemmas.{leaf_there}
 use Rattle.dr_file.specs.Streams.{IsStreamOf, StreamGoesOn, Fills, file_of, left_of, refused_of}
 use Rattle.dr_file.specs.declared.opened.Opened.{Opened}
 use Rattle.dr_plan.specs.Planned.{plan_leaves}
@@ -24,7 +27,7 @@ use Rattle.dr_walk.specs.Batches.{IsOver, Shrinks, is_last}
 use Rattle.dr_walk.specs.Checking.{rest_at}
 use Rattle.dr_walk.specs.declared.level_walk.LevelWalk.{LevelWalk}
 use Rattle.dr_walk.proofs.WalkLemmas.{not_known}
-use Rattle.dr_scan.specs.Streamed.{last_of, batch_at, left_at, ends_of, IsTold, IsLeafStream, AreLeafStreams, AreRefilled, with_more, with_batch, Extends, IsStreamed}
+use Rattle.dr_scan.specs.Streamed.{last_of, batch_at, left_at, ends_of, IsTold, IsLeafStream, AreLeafStreams, HasReadOn, AreReadOn, with_more, with_batch, Extends, IsStreamed}
 use Rattle.dr_scan.specs.declared.leaf_stream.LeafStream.{LeafStream}
 
 -- ---- streams by their numbers
@@ -172,26 +175,44 @@ batch_streamed s p rows given here ended others ms w k more h q e l goes_on same
 
 -- ---- the next batch of a leaf
 
-pub refilled : (held : Option Files) (o : Opened) (F : List Leaf) (l : Leaf) (given more : List Triplet) (x y : LeafStream) (some : Bool) → IsLeafStream held o F l given x → file_of y.stream ≡ file_of x.stream → y.ended ≡ not some
-    → column_view y.batch ≡ more → Fills some 0 (length more) (left_of x.stream) (left_of y.stream) → refused_of y.stream ≡ None
-    → ((bytes : List ℕ) → IsTold held o F bytes → StreamGoesOn bytes l given [] more y.stream some) → IsLeafStream held o F l (given ++ column_view y.batch) y
-refilled held o F l given more x y true h f e b fills well goes = subst (λ (ts : List Triplet). IsLeafStream held o F l (given ++ ts) y) (sym b) (record {
+-- triplets of a leaf joined its batch, or none
+joined_stream : (held : Option Files) (o : Opened) (F : List Leaf) (l : Leaf) (given before after more : List Triplet) (x y : LeafStream) (some : Bool) → IsLeafStream held o F l given x → file_of y.stream ≡ file_of x.stream → y.ended ≡ not some
+    → after ≡ before ++ more → Fills some (length before) (length after) (left_of x.stream) (left_of y.stream) → refused_of y.stream ≡ None
+    → ((bytes : List ℕ) → IsTold held o F bytes → StreamGoesOn bytes l given before after y.stream some) → IsLeafStream held o F l (given ++ more) y
+joined_stream held o F l given before after more x y true h f e b fills well goes = record {
   file = f ∙ h.file;
-  few = let n = length-append given more in let k = h.few in omega (arith, n, k, fills.2);
+  few = let n = length-append given more in let m = ap length b ∙ length-append before more in let k = h.few in omega (arith, n, m, k, fills.2);
   well = well;
-  of = λ bytes told. let g = goes bytes told in subst (λ (ts : List Triplet). IsStreamOf bytes l (given ++ ts) y.stream) (sym g.1) g.2;
+  of = λ bytes told. let g = goes bytes told in subst (λ (ts : List Triplet). IsStreamOf bytes l (given ++ ts) y.stream) (append_cancel_left before g.0 more (sym g.1 ∙ b)) g.2;
   last = λ bytes told z. absurd (true≢false (sym z ∙ e));
-})
-refilled held o F l given more x y false h f e b fills well goes = subst (λ (ts : List Triplet). IsLeafStream held o F l (given ++ ts) y) (sym b) (record {
+}
+joined_stream held o F l given before after more x y false h f e b fills well goes = record {
   file = f ∙ h.file;
-  few = let n = length-append given more in let k = h.few in omega (arith, n, k, fills.0, fills.1);
+  few = let n = length-append given more in let m = ap length b ∙ length-append before more in let k = h.few in omega (arith, n, m, k, fills.0, fills.1);
   well = well;
   of = λ bytes told. subst (λ (ts : List Triplet). IsStreamOf bytes l ts y.stream) (sym all) (goes bytes told).2;
   last = λ bytes told z. subst (IsColumnOf bytes l) (sym all) (goes bytes told).1;
-})
+}
   where
+    none : more ≡ []
+    none = nil_from_length more (let m = ap length b ∙ length-append before more in omega (arith, m, fills.0))
+
     all : given ++ more ≡ given
-    all = ap (λ (ts : List Triplet). given ++ ts) (nil_from_length more fills.0) ∙ append-nil given
+    all = ap (λ (ts : List Triplet). given ++ ts) none ∙ append-nil given
+
+pub joined_length : (before after : List Triplet) → BeginWith before after → length before ≤ length after
+joined_length before after b = let m = ap length b.1 ∙ length-append before b.0 in omega (arith, m)
+
+-- a leaf's stream was read on
+pub stream_read : (held : Option Files) (before after : List Triplet) (x y : LeafStream) (some : Bool) (count : ℕ) → column_view x.batch ≡ before → column_view y.batch ≡ after → count ≡ length after - length before → file_of y.stream ≡ file_of x.stream → y.ended ≡ not some
+    → BeginWith before after → Fills some (length before) (length after) (left_of x.stream) (left_of y.stream) → refused_of y.stream ≡ None
+    → ((o : Opened) (F : List Leaf) (l : Leaf) (given : List Triplet) → IsLeafStream held o F l given x → (bytes : List ℕ) → IsTold held o F bytes → StreamGoesOn bytes l given before after y.stream some) → HasReadOn held x y count
+stream_read held before after x y some count was is n f e b fills well goes = record {
+  more = b.0;
+  batch = is ∙ (b.1 ∙ ap (λ (ts : List Triplet). ts ++ b.0) (sym was));
+  so_many = let m = ap length b.1 ∙ length-append before b.0 in omega (arith, n, m);
+  stream = λ o F l given h. joined_stream held o F l given before after b.0 x y some h f e b.1 fills well (goes o F l given h);
+}
 
 same_stream : (x y : LeafStream) → Some x ≡ Some y → x ≡ y
 same_stream x y e = cc
@@ -293,12 +314,15 @@ end_by xs i = sym (unwrap_or-slice_get (map is_ended xs) i false) ∙ ap (λ (o 
 apart : (i k : ℕ) → (i == k) ≡ false → i ≢ k
 apart i k z q = true≢false (itself i k q ∙ z)
 
-refilled_here : (k : ℕ) (xs : List LeafStream) (x y : LeafStream) → slice_get xs k ≡ Some x → (i : ℕ) (b : Bool) → (i == k) ≡ b → batch_at (slice_set xs k y) i ≡ with_batch k (column_view y.batch) (batch_at xs) i
-refilled_here k xs x y there i true z = ap (batch_at (slice_set xs k y)) (eqb-true i k z) ∙ (batch_there (slice_set xs k y) k y (set_same xs k x y there) ∙ sym (rw z refl))
-refilled_here k xs x y there i false z = batch_by (slice_set xs k y) i ∙ (ap (λ (o : Option LeafStream). unwrap_or (option_map batch_of o) []) (set_other xs k i y (apart i k z)) ∙ (sym (batch_by xs i) ∙ sym (rw z refl)))
+read_here : (k : ℕ) (more : List Triplet) (xs : List LeafStream) (x y : LeafStream) → slice_get xs k ≡ Some x → column_view y.batch ≡ column_view x.batch ++ more → (i : ℕ) (b : Bool) → (i == k) ≡ b
+    → batch_at (slice_set xs k y) i ≡ with_more k more (batch_at xs) i
+read_here k more xs x y there e i true z =
+    ap (batch_at (slice_set xs k y)) (eqb-true i k z)
+    ∙ (batch_there (slice_set xs k y) k y (set_same xs k x y there) ∙ (e ∙ (ap (λ (ts : List Triplet). ts ++ more) (sym (ap (batch_at xs) (eqb-true i k z) ∙ batch_there xs k x there)) ∙ sym (rw z refl))))
+read_here k more xs x y there e i false z = batch_by (slice_set xs k y) i ∙ (ap (λ (o : Option LeafStream). unwrap_or (option_map batch_of o) []) (set_other xs k i y (apart i k z)) ∙ (sym (batch_by xs i) ∙ sym (rw z refl)))
 
-refilled_ends : (k : ℕ) (xs : List LeafStream) (y : LeafStream) (i : ℕ) → i ≢ k → is_last (ends_of (slice_set xs k y)) i ≡ is_last (ends_of xs) i
-refilled_ends k xs y i d = end_by (slice_set xs k y) i ∙ (ap (λ (o : Option LeafStream). unwrap_or (option_map is_ended o) false) (set_other xs k i y d) ∙ sym (end_by xs i))
+read_ends : (k : ℕ) (xs : List LeafStream) (y : LeafStream) (i : ℕ) → i ≢ k → is_last (ends_of (slice_set xs k y)) i ≡ is_last (ends_of xs) i
+read_ends k xs y i d = end_by (slice_set xs k y) i ∙ (ap (λ (o : Option LeafStream). unwrap_or (option_map is_ended o) false) (set_other xs k i y d) ∙ sym (end_by xs i))
 
 same_leaf : (l m : Leaf) → Some l ≡ Some m → l ≡ m
 same_leaf l m e = cc
@@ -309,24 +333,66 @@ with_here k i more given z = ap (λ (t : ℕ). given t ++ more) (sym (eqb-true i
 with_others : (k i : ℕ) (more : List Triplet) (given : Left) → (i == k) ≡ false → given i ≡ with_more k more given i
 with_others k i more given z = sym (rw z refl)
 
-refilled_each : (held : Option Files) (o : Opened) (F : List Leaf) (given : Left) (k : ℕ) (xs : List LeafStream) (l : Leaf) (x y : LeafStream) → AreLeafStreams held o F given xs → slice_get F k ≡ Some l → slice_get xs k ≡ Some x
-    → IsLeafStream held o F l (given k ++ column_view y.batch) y → (i : ℕ) (m : Leaf) (z : LeafStream) (b : Bool) → (i == k) ≡ b → slice_get F i ≡ Some m → slice_get (slice_set xs k y) i ≡ Some z
-    → IsLeafStream held o F m (with_more k (column_view y.batch) given i) z
-refilled_each held o F given k xs l x y h at there is i m z true q e f =
+read_each : (held : Option Files) (o : Opened) (F : List Leaf) (given : Left) (k : ℕ) (more : List Triplet) (xs : List LeafStream) (l : Leaf) (x y : LeafStream) → AreLeafStreams held o F given xs → slice_get F k ≡ Some l → slice_get xs k ≡ Some x
+    → IsLeafStream held o F l (given k ++ more) y → (i : ℕ) (m : Leaf) (z : LeafStream) (b : Bool) → (i == k) ≡ b → slice_get F i ≡ Some m → slice_get (slice_set xs k y) i ≡ Some z → IsLeafStream held o F m (with_more k more given i) z
+read_each held o F given k more xs l x y h at there is i m z true q e f =
     let j : i ≡ k = eqb-true i k q in
     let leaf : l ≡ m = same_leaf l m (sym at ∙ (ap (slice_get F) (sym j) ∙ e)) in
     let stream : y ≡ z = same_stream y z (sym (set_same xs k x y there) ∙ (ap (slice_get (slice_set xs k y)) (sym j) ∙ f)) in
-    subst (IsLeafStream held o F m (with_more k (column_view y.batch) given i)) stream
-    (subst (λ (t : Leaf). IsLeafStream held o F t (with_more k (column_view y.batch) given i) y) leaf (subst (λ (ts : List Triplet). IsLeafStream held o F l ts y) (with_here k i (column_view y.batch) given q) is))
-refilled_each held o F given k xs l x y h at there is i m z false q e f =
-    subst (λ (ts : List Triplet). IsLeafStream held o F m ts z) (with_others k i (column_view y.batch) given q) (h.each i m z e (sym (set_other xs k i y (apart i k q)) ∙ f))
+    subst (IsLeafStream held o F m (with_more k more given i)) stream
+    (subst (λ (t : Leaf). IsLeafStream held o F t (with_more k more given i) y) leaf (subst (λ (ts : List Triplet). IsLeafStream held o F l ts y) (with_here k i more given q) is))
+read_each held o F given k more xs l x y h at there is i m z false q e f =
+    subst (λ (ts : List Triplet). IsLeafStream held o F m ts z) (with_others k i more given q) (h.each i m z e (sym (set_other xs k i y (apart i k q)) ∙ f))
 
-pub refilled_all : (held : Option Files) (o : Opened) (F : List Leaf) (given : Left) (k : ℕ) (xs : List LeafStream) (l : Leaf) (x y : LeafStream) (count : ℕ) → AreLeafStreams held o F given xs → slice_get F k ≡ Some l → slice_get xs k ≡ Some x
-    → IsLeafStream held o F l (given k ++ column_view y.batch) y → count ≡ length (column_view y.batch) → AreRefilled held o F given k xs (slice_set xs k y) count
-refilled_all held o F given k xs l x y count h at there is c = record {
-  more = column_view y.batch;
-  streams = record { as_many = set_count xs k y ∙ h.as_many; each = λ i m z e f. refilled_each held o F given k xs l x y h at there is i m z (i == k) refl e f };
-  here = λ i. refilled_here k xs x y there i (i == k) refl;
-  ends = λ i d. refilled_ends k xs y i d;
-  so_many = c;
+-- the stream of a number is that of a leaf
+pub at_leaf : (held : Option Files) (o : Opened) (F : List Leaf) (given : Left) (xs : List LeafStream) (k : ℕ) (x : LeafStream) → AreLeafStreams held o F given xs → slice_get xs k ≡ Some x → (l : Leaf) × (slice_get F k ≡ Some l) × IsLeafStream held o F l (given k) x
+at_leaf held o F given xs k x h there =
+    let l = leaf_there F k (let n = h.as_many in let w = slice_get_within xs k x there in omega (arith, w, n)) in
+    (l.0, l.1, h.each k l.0 x l.1 there)
+
+pub streams_read : (held : Option Files) (k : ℕ) (xs : List LeafStream) (x y : LeafStream) (r : Result ℕ FileFault) → slice_get xs k ≡ Some x → IfOk r (HasReadOn held x y) → IfOk r (AreReadOn held k xs (slice_set xs k y))
+streams_read held k xs x y (Err e) there h = tt
+streams_read held k xs x y (Ok n) there h = record {
+  more = h.more;
+  here = λ i. read_here k h.more xs x y there h.batch i (i == k) refl;
+  ends = λ i d. read_ends k xs y i d;
+  so_many = h.so_many;
+  streams = λ o F given all.
+      let l = at_leaf held o F given xs k x all there in
+      record { as_many = set_count xs k y ∙ all.as_many; each = λ i m z e f. read_each held o F given k h.more xs l.0 x y all l.1 there (h.stream o F l.0 (given k) l.2) i m z (i == k) refl e f };
 }
+
+-- ---- the batch of a leaf is let go of
+
+pub cleared_here : (k : ℕ) (xs : List LeafStream) (x y : LeafStream) → slice_get xs k ≡ Some x → column_view y.batch ≡ [] → (i : ℕ) → batch_at (slice_set xs k y) i ≡ with_batch k [] (batch_at xs) i
+cleared_here k xs x y there e i = by_leaf (i == k) refl
+  where
+    by_leaf : (b : Bool) → (i == k) ≡ b → batch_at (slice_set xs k y) i ≡ with_batch k [] (batch_at xs) i
+    by_leaf true z = ap (batch_at (slice_set xs k y)) (eqb-true i k z) ∙ (batch_there (slice_set xs k y) k y (set_same xs k x y there) ∙ (e ∙ sym (rw z refl)))
+    by_leaf false z = batch_by (slice_set xs k y) i ∙ (ap (λ (o : Option LeafStream). unwrap_or (option_map batch_of o) []) (set_other xs k i y (apart i k z)) ∙ (sym (batch_by xs i) ∙ sym (rw z refl)))
+
+-- the next triplets of one leaf, so many, are its batch
+pub record AreRefilled (held : Option Files) (o : Opened) (F : List Leaf) (given : Left) (k : ℕ) (xs ys : List LeafStream) (count : ℕ) : Type 0 where
+  pub more : List Triplet
+  pub streams : AreLeafStreams held o F (with_more k more given) ys
+  pub here : (i : ℕ) → batch_at ys i ≡ with_batch k more (batch_at xs) i
+  pub ends : (i : ℕ) → i ≢ k → is_last (ends_of ys) i ≡ is_last (ends_of xs) i
+  pub so_many : count ≡ length more
+
+-- where it was let go of before
+pub refilled : (held : Option Files) (o : Opened) (F : List Leaf) (given : Left) (k : ℕ) (xs us ys : List LeafStream) (count : ℕ) → AreLeafStreams held o F given us → ends_of us ≡ ends_of xs → ((i : ℕ) → batch_at us i ≡ with_batch k [] (batch_at xs) i)
+    → AreReadOn held k us ys count → AreRefilled held o F given k xs ys count
+refilled held o F given k xs us ys count h same cleared a = record {
+  more = a.more;
+  streams = a.streams o F given h;
+  here = λ i. a.here i ∙ by_leaf i (i == k) refl;
+  ends = λ i d. a.ends i d ∙ ap (λ (bs : List Bool). is_last bs i) same;
+  so_many = a.so_many;
+}
+  where
+    by_leaf : (i : ℕ) (b : Bool) → (i == k) ≡ b → with_more k a.more (batch_at us) i ≡ with_batch k a.more (batch_at xs) i
+    by_leaf i true z =
+        let none : batch_at us i ≡ [] = cleared i ∙ rw z refl in
+        let joined : batch_at us i ++ a.more ≡ a.more = ap (λ (ts : List Triplet). ts ++ a.more) none in
+        rw z joined
+    by_leaf i false z = let kept : batch_at us i ≡ batch_at xs i = cleared i ∙ rw z refl in rw z kept

@@ -36,11 +36,11 @@ use Rattle.dr_agreement.specs.Behind.{IsBehind}
 use Rattle.dr_agreement.proofs.BehindLemmas.{behind_more}
 use Rattle.dr_scan.specs.Makings.{Makes}
 use Rattle.dr_scan.specs.Rests.{IsMadeOf}
-use Rattle.dr_scan.specs.Streamed.{last_of, batch_at, left_at, ends_of, AreLeafStreams, AreRefilled, with_more, with_batch, IsTold, IsStreamed, IsScanned, IsBetween, EndsStretch, EndsAtHand}
+use Rattle.dr_scan.specs.Streamed.{last_of, batch_at, left_at, ends_of, AreLeafStreams, with_more, with_batch, IsTold, IsStreamed, IsScanned, IsBetween, EndsStretch, EndsAtHand}
 use Rattle.dr_scan.specs.declared.leaf_stream.LeafStream.{LeafStream}
 use Rattle.dr_scan.specs.declared.making.Making.{Making}
 use Rattle.dr_scan.specs.declared.stretch.Stretch.{Stretch}
-use Rattle.dr_scan.proofs.StreamLemmas.{streamed_same, counts_here, batch_streamed}
+use Rattle.dr_scan.proofs.StreamLemmas.{AreRefilled, streamed_same, counts_here, batch_streamed}
 use Rattle.dr_scan.proofs.Tabulated.{tabulated, tabulated_count}
 
 -- the streams gave these triplets of an opened file's columns, of which those of the first records were taken; a walk over the others gave moves, and of

@@ -13,6 +13,8 @@ pub mod Tables
 -- what a plan makes of moves, and the streams of an opened file's leaves
 pub mod Makings
 pub mod Streamed
+-- what reading a file's leaves asks of a link
+pub mod Served
 -- the columns of a file's leaves side by side
 pub mod Chunked
 -- what is left of a file of which the first records were taken

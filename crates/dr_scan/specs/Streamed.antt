@@ -81,13 +81,20 @@ with_more k more given i = if i == k then given i ++ more else given i
 abbrev pub with_batch : ℕ → List Triplet → Left → Left
 with_batch k more here i = if i == k then more else here i
 
--- the next triplets of one leaf, so many, are in its batch
-pub record AreRefilled (held : Option Files) (o : Opened) (F : List Leaf) (given : Left) (k : ℕ) (xs ys : List LeafStream) (count : ℕ) : Type 0 where
+-- a leaf's stream gave more, so many, which joined its batch
+pub record HasReadOn (held : Option Files) (x y : LeafStream) (count : ℕ) : Type 0 where
   pub more : List Triplet
-  pub streams : AreLeafStreams held o F (with_more k more given) ys
-  pub here : (i : ℕ) → batch_at ys i ≡ with_batch k more (batch_at xs) i
+  pub batch : column_view y.batch ≡ column_view x.batch ++ more
+  pub so_many : count ≡ length more
+  pub stream : (o : Opened) (F : List Leaf) (l : Leaf) (given : List Triplet) → IsLeafStream held o F l given x → IsLeafStream held o F l (given ++ more) y
+
+-- that of one of the leaves did
+pub record AreReadOn (held : Option Files) (k : ℕ) (xs ys : List LeafStream) (count : ℕ) : Type 0 where
+  pub more : List Triplet
+  pub here : (i : ℕ) → batch_at ys i ≡ with_more k more (batch_at xs) i
   pub ends : (i : ℕ) → i ≢ k → is_last (ends_of ys) i ≡ is_last (ends_of xs) i
   pub so_many : count ≡ length more
+  pub streams : (o : Opened) (F : List Leaf) (given : Left) → AreLeafStreams held o F given xs → AreLeafStreams held o F (with_more k more given) ys
 
 -- ---- the walk
 

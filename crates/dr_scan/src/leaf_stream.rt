@@ -21,7 +21,7 @@ pub(crate) struct LeafStream<'f> {
 }
 
 impl<'f> LeafStream<'f> {
-    ghost use Rattle.std.specs.Prelude.{◌<◌, ◌++◌, [], ◌∷◌, ℕ, List, false, Option, None, Some, IfOk, IfErr, OnOk};
+    ghost use Rattle.std.specs.Prelude.{◌<◌, [], ◌∷◌, ℕ, List, Option, None, Some, IfOk, IfErr};
     ghost use Rattle.std.specs.List.{slice_get, flat_map};
     ghost use Rattle.dr_meaning.specs.Path.{Leaf};
     ghost use Rattle.dr_meaning.specs.Column.{Triplet};
@@ -36,7 +36,7 @@ impl<'f> LeafStream<'f> {
     ghost use Rattle.dr_file.specs.OpenedFiles.{IsColumnFault, leaf_count, path_of};
     ghost use Rattle.dr_file.specs.Streams.{file_of, refused_of};
     ghost use Rattle.dr_file.specs.declared.opened.Opened.{Opened as MeantOpened};
-    ghost use Rattle.dr_scan.specs.Streamed.{last_of, IsTold, IsLeafStream};
+    ghost use Rattle.dr_scan.specs.Streamed.{last_of, IsTold, IsLeafStream, HasReadOn};
 
     /// Before the first triplet of the leaf at an index of those that the file was opened for.
     ///
@@ -60,15 +60,17 @@ impl<'f> LeafStream<'f> {
         })
     }
 
-    /// The next batch in the place of the last one; at the column's end none, and that it is there.
+    /// Appends the next triplets of the leaf to the batch, at the column's end none, and notes that it is there. Answers
+    /// how many came.
     ///
     /// Errors: the link failed, with its counts of faults before and after this call; `BadData` where the leaf's chunks
     /// spell no column of any records; want of memory.
-    pub(crate) fn refill<L: Link>(&mut self, alloc: Global, link: &mut L) -> Result<(), FileFault>
-        ensures filled { (o : MeantOpened) (F : List Leaf) (l : Leaf) (given : List Triplet)
-            → IsLeafStream (L.shows link.old).held o F l given self.old
-            → OnOk result (IsLeafStream (L.shows link.old).held o F l
-            (given ++ column_view (self.new).batch) self.new) }
+    pub(crate) fn read_on<L: Link>(
+        &mut self,
+        alloc: Global,
+        link: &mut L,
+    ) -> Result<usize, FileFault>
+        ensures read { IfOk result (HasReadOn (L.shows link.old).held self.old self.new) }
         ensures cause { (o : MeantOpened) (F : List Leaf) (l : Leaf) (given : List Triplet) (bytes : List ℕ)
             → IsLeafStream (L.shows link.old).held o F l given self.old → IsTold (L.shows link.old).held o F bytes
             → IfErr result (λ e. IsColumnFault e (leaf_cause bytes l)) }
@@ -84,10 +86,18 @@ impl<'f> LeafStream<'f> {
             (L.shows link.old) (L.shows link.new) }
         ensures form { column_form (self.new).batch ≡ column_form (self.old).batch }
     {
-        self.batch.clear();
+        let before = self.batch.len();
         let some = self.stream.next(alloc, link, &mut self.batch)?;
         self.ended = !some;
-        Ok(())
+        Ok(self.batch.len() - before)
+    }
+
+    /// Lets go of the batch.
+    pub(crate) fn clear(&mut self)
+        ensures none { column_view (self.new).batch ≡ [] }
+        ensures stream { ((self.new).stream ≡ (self.old).stream) × ((self.new).ended ≡ (self.old).ended) }
+    {
+        self.batch.clear();
     }
 
     /// The last so many triplets of the batch, or as many as there are.

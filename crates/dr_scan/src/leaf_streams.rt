@@ -1,22 +1,17 @@
 //! The streams of a file's leaves, with their batches.
 
-ghost use Rattle.std.specs.Prelude.{◌≡◌, [], ℕ, List, length, map, get_or, slice_set, Option, Some, IfOk, IfErr};
-ghost use Rattle.std.specs.List.{flat_map};
+ghost use Rattle.std.specs.Prelude.{◌≡◌, [], ℕ, List, length, map, get_or, slice_set, Option, IfOk};
 ghost use Rattle.dr_meaning.specs.Path.{Leaf};
-ghost use Rattle.dr_formats.specs.File.{Footer, footer_of, leaves_read};
-ghost use Rattle.dr_formats.specs.Opening.{leaf_ranges};
 ghost use Rattle.dr_levels.specs.Views.{triplets_view};
 ghost use Rattle.dr_outside.specs.Link.{Files};
-ghost use Rattle.dr_outside.specs.Telling.{AsksOnly};
-ghost use Rattle.dr_chunk.specs.Ranges.{is_read_inside};
 ghost use Rattle.dr_moves.specs.Leading.{Left};
-ghost use Rattle.dr_file.specs.Asking.{is_for_path};
-ghost use Rattle.dr_file.specs.Leaving.{LeavesLinkCounted, ServesOpened};
-ghost use Rattle.dr_file.specs.OpenedFiles.{leaf_count, path_of};
+ghost use Rattle.dr_file.specs.OpenedFiles.{leaf_count};
 ghost use Rattle.dr_file.specs.declared.opened.Opened.{Opened as MeantOpened};
 ghost use Rattle.dr_scan.specs.FileRecords.{IsColumnsFault};
 ghost use Rattle.dr_walk.specs.Checking.{rest_at};
-ghost use Rattle.dr_scan.specs.Streamed.{batch_at, left_at, ends_of as meant_ends, IsTold, AreLeafStreams, AreRefilled};
+ghost use Rattle.dr_scan.specs.Chunked.{batch_forms, same_streams};
+ghost use Rattle.dr_scan.specs.Served.{ReadsLeaves};
+ghost use Rattle.dr_scan.specs.Streamed.{batch_at, left_at, ends_of as meant_ends, with_batch, AreLeafStreams, AreReadOn};
 
 use crate::leaf_stream::LeafStream;
 use dr_file::{FileFault, Opened};
@@ -45,40 +40,35 @@ pub(crate) fn leaf_streams<'f>(
     Ok(streams)
 }
 
-/// The next batch of a leaf in the place of the last one. Answers how many triplets it has.
+/// Appends the next triplets of a leaf to its batch. Answers how many came.
 ///
 /// Errors: the link failed, with its counts of faults before and after this call; `BadData` where one leaf's chunks
 /// spell no column of any records; want of memory.
-pub(crate) fn refill_at<L: Link>(
+pub(crate) fn read_at<L: Link>(
     alloc: Global,
     link: &mut L,
     streams: &mut Vec<LeafStream<'_>>,
-    leaf: u32,
+    leaf: usize,
 ) -> Result<usize, FileFault>
-    ensures filled { (o : MeantOpened) (F : List Leaf) (given : Left)
+    ensures read { IfOk result (AreReadOn (L.shows link.old).held leaf (streams.old).items (streams.new).items) }
+    ensures forms { batch_forms (streams.new).items ≡ batch_forms (streams.old).items }
+    ensures reads { (o : MeantOpened) (F : List Leaf) (given : Left)
         → AreLeafStreams (L.shows link.old).held o F given (streams.old).items
-        → IfOk result (AreRefilled (L.shows link.old).held o F given leaf (streams.old).items (streams.new).items) }
-    ensures cause { (o : MeantOpened) (F : List Leaf) (given : Left) (bytes : List ℕ)
-        → AreLeafStreams (L.shows link.old).held o F given (streams.old).items
-        → IsTold (L.shows link.old).held o F bytes → IfErr result (IsColumnsFault bytes F) }
-    ensures asked { (o : MeantOpened) (F : List Leaf) (given : Left) (bytes : List ℕ) (f : Footer)
-        → AreLeafStreams (L.shows link.old).held o F given (streams.old).items
-        → IsTold (L.shows link.old).held o F bytes → footer_of bytes ≡ Some f
-        → AsksOnly (is_read_inside (path_of o) (flat_map (leaf_ranges f) (leaves_read f F)))
-        (L.shows link.old).asked (L.shows link.new).asked }
-    ensures paths { (o : MeantOpened) (F : List Leaf) (given : Left)
-        → AreLeafStreams (L.shows link.old).held o F given (streams.old).items
-        → AsksOnly (is_for_path (path_of o)) (L.shows link.old).asked (L.shows link.new).asked }
-    ensures link { (o : MeantOpened) (F : List Leaf) (given : Left)
-        → AreLeafStreams (L.shows link.old).held o F given (streams.old).items
-        → LeavesLinkCounted result (ServesOpened (L.shows link.old) o) (L.shows link.old) (L.shows link.new) }
+        → ReadsLeaves result (λ bytes. IsColumnsFault bytes F) o F (L.shows link.old) (L.shows link.new) }
 {
-    match streams.get_mut(leaf as usize) {
-        Some(stream) => {
-            stream.refill(alloc, link)?;
-            Ok(stream.batch.len())
-        }
+    match streams.get_mut(leaf) {
+        Some(stream) => stream.read_on(alloc, link),
         None => Err(FileFault::NoMemory),
+    }
+}
+
+/// Lets go of the batch of a leaf.
+pub(crate) fn clear_at(streams: &mut Vec<LeafStream<'_>>, leaf: usize)
+    ensures streams { same_streams (streams.new).items ≡ same_streams (streams.old).items }
+    ensures here { (i : ℕ) → batch_at (streams.new).items i ≡ with_batch leaf [] (batch_at (streams.old).items) i }
+{
+    if let Some(stream) = streams.get_mut(leaf) {
+        stream.clear();
     }
 }
 

@@ -1,5 +1,6 @@
 //! Scans: a tablet's records as a partial of a query, from the file at a path, or from the first of the tablet's copies
-//! that gives one. Of each leaf's column a batch is held at a time.
+//! that gives one. Of each leaf's column a chunk of whole records is held at a time, or a batch, where a record is longer
+//! than a chunk.
 #![tactic(auto)]
 
 mod chunks;
@@ -18,6 +19,7 @@ mod scanning;
 mod streaming;
 mod stretch;
 mod tablet;
+mod take_chunks;
 
 pub use fault::file_fault;
 pub use file_columns::{FileColumns, read_file_columns};

@@ -23,7 +23,7 @@ ghost use Rattle.dr_scan.specs.Streamed.{left_at, ends_of as meant_ends, IsTold,
 
 use crate::fault::file_fault;
 use crate::leaf_stream::LeafStream;
-use crate::leaf_streams::{counts_of, ends_of, refill_at, rests_of, set_count};
+use crate::leaf_streams::{clear_at, counts_of, ends_of, read_at, rests_of, set_count};
 use crate::making::Making;
 use crate::opened::Made;
 use crate::paths::steps_of;
@@ -123,7 +123,8 @@ pub(crate) fn partial_of_rest<L: Link>(
             Ok((Stretch::Wants(leaf), counts)) => {
                 rest.left = counts;
                 mem::swap(&mut last, &mut next);
-                let count = refill_at(alloc, link, &mut rest.streams, leaf)?;
+                clear_at(&mut rest.streams, leaf as usize);
+                let count = read_at(alloc, link, &mut rest.streams, leaf as usize)?;
                 set_count(&mut rest.left, leaf, count);
                 rest.read.add(count as u64);
             }

@@ -27,12 +27,13 @@ use Rattle.dr_scan.proofs.RecordsLemmas.{paths_same, columns_fault, assembled_al
 use Rattle.dr_walk.specs.Walking.{IsAtLevels}
 use Rattle.dr_within.specs.Rows.{HasLast}
 use Rattle.dr_within.specs.declared.last_read.LastRead.{LastRead}
-use Rattle.dr_scan.specs.Streamed.{left_at, ends_of, EndsAtHand, AreRefilled}
+use Rattle.dr_scan.specs.Streamed.{left_at, ends_of, EndsAtHand}
 use Rattle.dr_scan.specs.declared.stretch.Stretch.{Stretch}
 use Rattle.dr_scan.proofs.ScanLemmas.{plan_has_leaves}
 use Rattle.dr_scan.proofs.LeafLemmas.{plan_leaf_paths, plan_paths_differ}
 use Rattle.dr_scan.proofs.MakingLemmas.{made_all}
-use Rattle.dr_scan.proofs.StreamLemmas.{streams_begin, nothing_past}
+use Rattle.dr_scan.proofs.HandingLemmas.{same_ends, same_leaf_streams}
+use Rattle.dr_scan.proofs.StreamLemmas.{AreRefilled, refilled, streams_begin, nothing_past}
 use Rattle.dr_scan.proofs.FileLemmas.{few_given, whole_opened, streamed_bad, walk_fault}
 use Rattle.dr_scan.proofs.RestLemmas.{given_counted, whole_file, none_begins, joins, made_of_plan, may_join, both_few, rest_few}
 use Rattle.dr_scan.proofs.UnderwayLemmas.{IsUnderway, goes_on, so_far, unmoved, still_serves, still_told, still_streams, streamed_at, ends_hand}
@@ -219,9 +220,9 @@ returns-in_err-count-in-Ok-Wants-default-clause-cause g c = λ bytes told.
     let same = c.deref-in-stretches.ensures.value in
     let so_many = c.deref-in-stretches-2.ensures.value in
     let now = (g.L.Link.shows c.stretches.link).held in
-    let streams = still_streams held now o F at.given xs inv.same at.streams in
+    let streams = same_leaf_streams now o F at.given xs c.clear_at.new.streams.items (still_streams held now o F at.given xs inv.same at.streams) c.clear_at.ensures.streams in
     err_is (IsFaultOf bytes s F) _ c.in_err-count-in-Ok-Wants-default.field-0.0 c.from_residual-in_err-count-in-Ok-Wants-default.ensures.1
-    (columns_fault bytes s F o c.in_err-count-in-Ok-Wants-default.field-0.0 told.0 (plan_has_leaves s p p.leaves.items c.requires.planned refl) (c.in_err-count-in-Ok-Wants-default.ensures.cause o F at.given bytes streams (still_told held now o F bytes inv.same told)))
+    (columns_fault bytes s F o c.in_err-count-in-Ok-Wants-default.field-0.0 told.0 (plan_has_leaves s p p.leaves.items c.requires.planned refl) ((c.in_err-count-in-Ok-Wants-default.ensures.reads o F at.given streams).cause bytes (still_told held now o F bytes inv.same told)))
 
 pub returns-in_err-count-in-Ok-Wants-default-clause-asked : goal.returns-in_err-count-in-Ok-Wants-default-clause-asked
 returns-in_err-count-in-Ok-Wants-default-clause-asked g c = λ bytes f told e.
@@ -239,8 +240,8 @@ returns-in_err-count-in-Ok-Wants-default-clause-asked g c = λ bytes f told e.
     let same = c.deref-in-stretches.ensures.value in
     let so_many = c.deref-in-stretches-2.ensures.value in
     let now = (g.L.Link.shows c.stretches.link).held in
-    let streams = still_streams held now o F at.given xs inv.same at.streams in
-    asks_then (is_read_inside (path_of o) (flat_map (leaf_ranges f) (leaves_read f F))) _ _ _ (inv.asked bytes f told e) (c.refill_at.ensures.asked o F at.given bytes f streams (still_told held now o F bytes inv.same told) e)
+    let streams = same_leaf_streams now o F at.given xs c.clear_at.new.streams.items (still_streams held now o F at.given xs inv.same at.streams) c.clear_at.ensures.streams in
+    asks_then (is_read_inside (path_of o) (flat_map (leaf_ranges f) (leaves_read f F))) _ _ _ (inv.asked bytes f told e) ((c.read_at.ensures.reads o F at.given streams).asked bytes f (still_told held now o F bytes inv.same told) e)
 
 pub returns-in_err-count-in-Ok-Wants-default-clause-paths : goal.returns-in_err-count-in-Ok-Wants-default-clause-paths
 returns-in_err-count-in-Ok-Wants-default-clause-paths g c =
@@ -258,8 +259,8 @@ returns-in_err-count-in-Ok-Wants-default-clause-paths g c =
     let same = c.deref-in-stretches.ensures.value in
     let so_many = c.deref-in-stretches-2.ensures.value in
     let now = (g.L.Link.shows c.stretches.link).held in
-    let streams = still_streams held now o F at.given xs inv.same at.streams in
-    asks_then (is_for_path (path_of o)) _ _ _ inv.paths (c.refill_at.ensures.paths o F at.given streams)
+    let streams = same_leaf_streams now o F at.given xs c.clear_at.new.streams.items (still_streams held now o F at.given xs inv.same at.streams) c.clear_at.ensures.streams in
+    asks_then (is_for_path (path_of o)) _ _ _ inv.paths ((c.read_at.ensures.reads o F at.given streams).paths)
 
 pub returns-in_err-count-in-Ok-Wants-default-clause-link : goal.returns-in_err-count-in-Ok-Wants-default-clause-link
 returns-in_err-count-in-Ok-Wants-default-clause-link g c =
@@ -277,11 +278,11 @@ returns-in_err-count-in-Ok-Wants-default-clause-link g c =
     let same = c.deref-in-stretches.ensures.value in
     let so_many = c.deref-in-stretches-2.ensures.value in
     let now = (g.L.Link.shows c.stretches.link).held in
-    let streams = still_streams held now o F at.given xs inv.same at.streams in
+    let streams = same_leaf_streams now o F at.given xs c.clear_at.new.streams.items (still_streams held now o F at.given xs inv.same at.streams) c.clear_at.ensures.streams in
     let before = g.L.Link.shows c.args.link.now in
     let between = g.L.Link.shows c.stretches.link in
     then_leaves (tt {0}) _ (ServesOpened before o) (ServesOpened between o) before between _ (so_far (tt {0}) (ServesOpened before o) before between inv.same inv.calm inv.stays_steady) (λ bytes k. still_serves o before between bytes inv.same inv.stays_steady k)
-    (same_fault_leaves _ c.in_err-count-in-Ok-Wants-default.field-0.0 _ _ _ c.from_residual-in_err-count-in-Ok-Wants-default.ensures.1 (c.in_err-count-in-Ok-Wants-default.ensures.link o F at.given streams))
+    (same_fault_leaves _ c.in_err-count-in-Ok-Wants-default.field-0.0 _ _ _ c.from_residual-in_err-count-in-Ok-Wants-default.ensures.1 (c.in_err-count-in-Ok-Wants-default.ensures.reads o F at.given streams).link)
 
 pub returns-in-Err-clause-cause : goal.returns-in-Err-clause-cause
 returns-in-Err-clause-cause g c = λ bytes told.
@@ -347,21 +348,22 @@ stretches-preserved g c =
     let ends = ends_hand s p at.come at.back walk making behind xs ys left counts c.make_at_hand.result same so_many
     (c.make_at_hand.ensures.ends s p at.come at.back at.moves c.requires.planned (streamed_at s p at.come at.back at.moves c.stretches.walk xs ys left counts same so_many at.streamed) at.makes at.reads inv.as_many) in
     let now = (g.L.Link.shows c.stretches.link).held in
-    let streams = still_streams held now o F at.given xs inv.same at.streams in
+    let streams = same_leaf_streams now o F at.given xs c.clear_at.new.streams.items (still_streams held now o F at.given xs inv.same at.streams) c.clear_at.ensures.streams in
     let wants = c.in-Ok-Wants-default in
     let between = subst (λ (e : Stretch). EndsAtHand s p at.come at.back (ends_of xs) (left_at xs left) walk making behind (Ok (e, wants.counts))) wants.field-0-0-is (subst (EndsAtHand s p at.come at.back (ends_of xs) (left_at xs left) walk making behind) wants.is ends) in
     let some = c.in_ok-count-in-Ok-Wants-default in
-    let refill = some.ensures.link o F at.given streams in
-    let refilled = subst (λ (h : Option Files). AreRefilled h o F at.given wants.leaf xs c.refill_at.new.streams.items some.count) inv.same (some.ensures.filled o F at.given streams) in
-    let on = goes_on s p held o xs c.refill_at.new.streams.items left wants.counts.items walk making behind wants.leaf c.stretches.rest.read some.count c.add.new.self at.come c.stretches.rest.made at.records at.given at.back at.behind at.made at.count between refilled at.streams.as_many c.add.ensures in
+    let refill = (some.ensures.reads o F at.given streams).link in
+    let next = subst (λ (h : Option Files). AreRefilled h o F at.given wants.leaf xs c.read_at.new.streams.items some.count) inv.same
+    (refilled now o F at.given wants.leaf xs c.clear_at.new.streams.items c.read_at.new.streams.items some.count streams (same_ends xs c.clear_at.new.streams.items c.clear_at.ensures.streams) c.clear_at.ensures.here some.ensures.read) in
+    let on = goes_on s p held o xs c.read_at.new.streams.items left wants.counts.items walk making behind wants.leaf c.stretches.rest.read some.count c.add.new.self at.come c.stretches.rest.made at.records at.given at.back at.behind at.made at.count between next at.streams.as_many c.add.ensures in
     record {
-      at = subst (λ (l : LastRead). IsUnderway s p held o c.refill_at.new.streams.items c.set_count.new.counts.items walk making l c.add.new.self c.stretches.rest.made) (sym c.swap.ensures.x_after)
-          (subst (λ (ns : List ℕ). IsUnderway s p held o c.refill_at.new.streams.items ns walk making behind c.add.new.self c.stretches.rest.made) (sym c.set_count.ensures) on);
+      at = subst (λ (l : LastRead). IsUnderway s p held o c.read_at.new.streams.items c.set_count.new.counts.items walk making l c.add.new.self c.stretches.rest.made) (sym c.swap.ensures.x_after)
+          (subst (λ (ns : List ℕ). IsUnderway s p held o c.read_at.new.streams.items ns walk making behind c.add.new.self c.stretches.rest.made) (sym c.set_count.ensures) on);
       as_many = ap (λ (l : LastRead). length l.values.items) c.swap.ensures.y_after ∙ at.reads.0;
       same = refill.same ∙ inv.same;
       calm = refill.calm refl ∙ inv.calm;
       stays_steady = λ k. refill.stays_steady (inv.stays_steady k);
       asked = λ bytes f told e. asks_then (is_read_inside (path_of o) (flat_map (leaf_ranges f) (leaves_read f F))) _ _ _ (inv.asked bytes f told e)
-          (c.refill_at.ensures.asked o F at.given bytes f streams (still_told held now o F bytes inv.same told) e);
-      paths = asks_then (is_for_path (path_of o)) _ _ _ inv.paths (c.refill_at.ensures.paths o F at.given streams);
+          ((c.read_at.ensures.reads o F at.given streams).asked bytes f (still_told held now o F bytes inv.same told) e);
+      paths = asks_then (is_for_path (path_of o)) _ _ _ inv.paths ((c.read_at.ensures.reads o F at.given streams).paths);
     }

@@ -58,3 +58,6 @@ returns-in-Ok-clause-more g c = λ bytes l given at told.
 
 pub returns-in-Ok-clause-asked : goal.returns-in-Ok-clause-asked
 returns-in-Ok-clause-asked g c = asks_chunk _ _ _ _ (range_of c.args.self.now.reader) _ _ (c.args.self.now.chunk c.requires.some) c.next.ensures.asked
+
+pub returns-in-Ok-clause-front : goal.returns-in-Ok-clause-front
+returns-in-Ok-clause-front g c = let j = c.in_ok-count.ensures.longer in (j.0, j.2)

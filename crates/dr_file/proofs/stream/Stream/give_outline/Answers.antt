@@ -5,7 +5,7 @@ use Rattle.dr_chunk.proofs.AskLemmas.{asks_then}
 use Rattle.dr_chunk.proofs.HeaderLemmas.{tells_same}
 use Rattle.dr_file.specs.OpenedFiles.{path_of}
 use Rattle.dr_file.specs.Streams.{IsStreamOf, StreamGoesOn, Reads, left_of}
-use Rattle.dr_file.proofs.StreamLemmas.{asks_same_stream, nothing_joined}
+use Rattle.dr_file.proofs.StreamLemmas.{asks_same_stream, begins_same, nothing_joined}
 use Rattle.dr_file.proofs.stream.Stream.give_outline.Goals as goal
 
 pub returns-in_err-tell_batch-clause-bad : goal.returns-in_err-tell_batch-clause-bad
@@ -27,6 +27,16 @@ returns-then-not-branch-clause-more g c = λ bytes l given s told.
 
 pub returns-then-not-branch-clause-asked : goal.returns-then-not-branch-clause-asked
 returns-then-not-branch-clause-asked g c = asks_then _ _ _ _ c.batches.invariant.asked (asks_same_stream c.args.self.now c.batches.self _ _ c.batches.invariant.file c.batches.invariant.field c.tell_batch.ensures.asked)
+
+pub returns-then-not-branch-clause-front : goal.returns-then-not-branch-clause-front
+returns-then-not-branch-clause-front g c =
+    let r = subst (λ (b : Bool). Reads b (column_view c.batches.out) (column_view c.tell_batch.new.out) (left_of c.batches.self) (left_of c.tell_batch.new.self)) c.if-not-branch.true c.in_ok-tell_batch.ensures.reads in
+    begins_same _ _ (r.0 ∙ c.batches.invariant.column)
+
+pub returns-then-len-before-clause-front : goal.returns-then-len-before-clause-front
+returns-then-len-before-clause-front g c =
+    let r = subst (λ (b : Bool). Reads b (column_view c.batches.out) (column_view c.tell_batch.new.out) (left_of c.batches.self) (left_of c.tell_batch.new.self)) c.if-not-branch.false c.in_ok-tell_batch.ensures.reads in
+    (r.0, r.1 ∙ ap (λ xs. xs ++ r.0) c.batches.invariant.column)
 
 pub returns-then-len-before-clause-more : goal.returns-then-len-before-clause-more
 returns-then-len-before-clause-more g c = λ bytes l given s told.

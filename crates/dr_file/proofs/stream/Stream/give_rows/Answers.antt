@@ -16,3 +16,6 @@ returns-in-Ok-clause-fills c =
     let e : length (column_view c.push_rows.new.out) ≡ length (column_view c.args.out.now) + k =
     ap length c.in-Ok.ensures.nulls ∙ (length-append (column_view c.args.out.now) (replicate k (triplet 0 0 None)) ∙ ap (λ n. length (column_view c.args.out.now) + n) (length-replicate k (triplet 0 0 None))) in
     rows_fills _ k _ _ c.args.self.now _ refl c.requires.told c.requires.told e c.min-count.ensures (omega (arith, c.min-count.ensures))
+
+pub returns-in-Ok-clause-front : goal.returns-in-Ok-clause-front
+returns-in-Ok-clause-front c = (replicate c.min-count.result (triplet 0 0 None), c.in-Ok.ensures.nulls)

@@ -1,5 +1,4 @@
-use Rattle.std.proofs.Common.{List, ℕ, length, refl, sym, ap, subst}
-use Rattle.dr_meaning.specs.Column.{Triplet}
+use Rattle.std.proofs.Common.{List, ℕ, ◌-◌, refl, sym, ap₂, subst, arith}
 use Rattle.dr_formats.specs.Opening.{leaf_cause, leaf_ranges}
 use Rattle.dr_formats.specs.File.{leaves_read}
 use Rattle.std.specs.List.{flat_map}
@@ -8,22 +7,21 @@ use Rattle.dr_levels.specs.Views.{column_view}
 use Rattle.dr_outside.specs.Telling.{TellsFile, AsksOnly}
 use Rattle.dr_chunk.specs.Ranges.{is_read_inside}
 use Rattle.dr_file.specs.OpenedFiles.{IsColumnFault, path_of}
-use Rattle.dr_file.specs.Streams.{StreamGoesOn, Fills, left_of}
 use Rattle.dr_file.specs.declared.opened.Opened.{Opened}
 use Rattle.dr_file.proofs.LeavingLemmas.{same_fault_leaves, value_leaves}
 use Rattle.dr_scan.proofs.ColumnsLemmas.{err_is}
-use Rattle.dr_scan.proofs.StreamLemmas.{refilled}
-use Rattle.dr_scan.proofs.leaf_stream.LeafStream.refill.Goals as goal
+use Rattle.dr_scan.proofs.StreamLemmas.{joined_length, stream_read}
+use Rattle.dr_scan.proofs.leaf_stream.LeafStream.read_on.Goals as goal
 
-pub returns-clause-filled : goal.returns-clause-filled
-returns-clause-filled g c = λ o F l given h.
-    let held = (g.L.Link.shows c.args.link.now).held in
-    let more = column_view c.next.new.out in
-    let fills = c.in_ok-some.ensures.fills in
-    refilled held o F l given more c.args.self.now _ c.in_ok-some.some h c.next.ensures.file refl refl
-    (subst (λ (n : ℕ). Fills c.in_ok-some.some n (length more) (left_of c.args.self.now.stream) (left_of c.next.new.self)) (ap length c.clear.ensures.empty) fills) c.in_ok-some.ensures.refused (λ bytes told.
-    let at = subst (λ (x : Opened). TellsFile held (path_of x) bytes) (sym h.file) told.1 in
-    subst (λ (ts : List Triplet). StreamGoesOn bytes l given ts more c.next.new.self c.in_ok-some.some) c.clear.ensures.empty (c.in_ok-some.ensures.more bytes l given (h.of bytes told) at))
+pub overflow_sub-result : goal.overflow_sub-result
+overflow_sub-result g c = let m = joined_length (column_view c.args.self.now.batch) (column_view c.next.new.out) c.in_ok-some.ensures.front in omega (arith, c.len-before.ensures, c.len.ensures, m)
+
+pub returns-clause-read : goal.returns-clause-read
+returns-clause-read g c =
+    let next = c.in_ok-some.ensures in
+    stream_read (g.L.Link.shows c.args.link.now).held (column_view c.args.self.now.batch) (column_view c.next.new.out) c.args.self.now _ c.in_ok-some.some _ refl refl
+    (ap₂ (λ (n m : ℕ). n - m) c.len.ensures c.len-before.ensures) c.next.ensures.file refl next.front next.fills next.refused (λ o F l given h bytes told.
+    next.more bytes l given (h.of bytes told) (subst (λ (x : Opened). TellsFile (g.L.Link.shows c.args.link.now).held (path_of x) bytes) (sym h.file) told.1))
 
 pub returns-in_err-some-clause-cause : goal.returns-in_err-some-clause-cause
 returns-in_err-some-clause-cause g c = λ o F l given bytes h told.
