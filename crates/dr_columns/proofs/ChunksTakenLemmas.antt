@@ -187,7 +187,7 @@ module _ (q : Query) (fs : Fields) (ls : List Leaf) (ks : List ℕ) (A : List Ag
         let w : AreBeside F k p (all_beside F k [] (read_of ks ts)) × AreReadBeside k (all_beside F k [] (read_of ks ts)) (read_of ks ts) =
         sources_are_beside F k p (read_of ks ts) o.differ e (read_on_chain fs ls ks k p o e ts c taken) in
         let many : length C ≡ length F = ap (λ (D : List (List Triplet)). length D) (sym x.2) ∙ length-map F (λ (r : List Step). column r S) in
-        record { leaf = omega (arith, l, many); apart = w.0.apart C; fed = (rows_of_records fs F C n S k p (all_beside F k [] (read_of ks ts)) x o.leaves w.0).0 }
+        record { leaf = omega (arith, l, many); apart = w.0.apart C; different = w.0.all_different C; fed = (rows_of_records fs F C n S k p (all_beside F k [] (read_of ks ts)) x o.leaves w.0).0 }
 
     pub can_fire : (fires_at F ks A k).needed ≡ true → CanFire C (fires_at F ks A k)
     can_fire = by_key (same_leaf (greatest ks) (Some k)) refl ts refl

@@ -29,6 +29,7 @@ use Rattle.dr_rows_beside.specs.Rows.{Row, Follower, run, in_slot, source_view}
 use Rattle.dr_columns.specs.RowPuts.{groups_in, puts_in}
 use Rattle.dr_columns.specs.Numbers.{HasPut}
 use Rattle.dr_columns.specs.Takings.{Take, CanFire, taking_puts, puts_by}
+use Rattle.dr_columns.proofs.LeafRowLemmas.{own_kept}
 use Rattle.dr_rows_beside.proofs.RunLemmas.{own_slots}
 
 -- ---- a group is put once
@@ -112,4 +113,4 @@ own_at_once i x leaf needed ts' bs C ts c e h =
     let rs : List Row = rows_of leaf bs C in
     let own : in_slot leaf rs ≡ map (λ (t : Triplet). t.value) ts =
     own_slots leaf (map (source_view C) bs) (replicate (length C) None) (column_at C leaf) (omega (arith, c.leaf, length-replicate {A = Option Value} (length C) None)) c.apart ∙ ap (map (λ (t : Triplet). t.value)) (sym e) in
-    ap (many_puts [] i) (sym (h rs own)) ∙ values_at_once i (value_in x) rs
+    ap (many_puts [] i) (sym (own_kept x leaf ts rs h own)) ∙ values_at_once i (value_in x) rs

@@ -22,6 +22,9 @@ first_value v w vs ws e = cc
 other_values : (v w : Value) (vs ws : List Value) → v ∷ vs ≡ w ∷ ws → vs ≡ ws
 other_values v w vs ws e = cc
 
+none_fits : (T : ValueType) → of_type T None ≡ None
+none_fits T = refl
+
 module _ {A : Type 0} (see : A → Value) (T : ValueType) (fits : (a : A) → of_type T (Some (see a)) ≡ Some (see a)) where
   -- each value that there is is of the type
   pub all_fit : (ts : List Triplet) (xs : List A) → present_values ts ≡ map see xs → map (of_type T) (triplet_values ts) ≡ triplet_values ts
@@ -44,4 +47,4 @@ module _ (x : Expr) (T : ValueType) (leaf : ℕ) (own : (read : ℕ → Option V
   own_read (r ∷ rs) = ap₂ (λ (v : Option Value) (vs : List (Option Value)). v ∷ vs) (own (slot_at r.slots)) (own_read rs)
 
   pub own_values : {A : Type 0} (see : A → Value) (fits : (a : A) → of_type T (Some (see a)) ≡ Some (see a)) (ts : List Triplet) (xs : List A) → present_values ts ≡ map see xs → HasOwn x leaf ts
-  own_values see fits ts xs e rs s = own_read rs ∙ (ap (map (of_type T)) s ∙ all_fit see T fits ts xs e)
+  own_values see fits ts xs e rs s = own_read rs ∙ s (of_type T) (none_fits T) (all_fit see T fits ts xs e)

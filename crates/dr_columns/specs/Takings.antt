@@ -14,7 +14,7 @@ use Rattle.dr_beside.specs.Neighbours.{column_at}
 use Rattle.dr_rows_beside.specs.declared.source.Beside.{Beside}
 use Rattle.dr_columns.specs.declared.taking.Taking.{Taking}
 use Rattle.dr_columns.specs.declared.firing.Fired.{Fired}
-use Rattle.dr_rows_beside.specs.Rows.{Row, source_view, is_fed, is_apart}
+use Rattle.dr_rows_beside.specs.Rows.{Row, source_view, is_fed, is_apart, all_apart}
 use Rattle.dr_rows_beside.specs.RecordRows.{rows_of}
 use Rattle.dr_rows_beside.specs.ExprRows.{value_in}
 use Rattle.dr_columns.specs.RowPuts.{groups_in, puts_in}
@@ -106,10 +106,11 @@ fires_of F ks A n = map (fires_at F ks A) (first_numbers n)
 abbrev pub fired_rows : List (List Triplet) → Fires → List Row
 fired_rows C f = rows_of f.leaf f.beside C
 
--- a leaf whose rows can be read of these columns; it isn't among those beside it
+-- a leaf whose rows can be read of these columns; it isn't among those beside it, which are different ones
 pub record CanFire (C : List (List Triplet)) (f : Fires) : Type 0 where
   pub leaf : f.leaf < length C
   pub apart : is_apart f.leaf (map (source_view C) f.beside) ≡ true
+  pub different : all_apart (map (source_view C) f.beside) ≡ true
   pub fed : list_all (is_fed (column_at C f.leaf) (length C)) (map (source_view C) f.beside) ≡ true
 
 -- those whose rows are of use can be read

@@ -1,11 +1,16 @@
 //! The groups of rows, by their numbers.
 
-ghost use Rattle.std.specs.Prelude.{◌≡◌, [], ◌∷◌, length, map, true, None, Some, IfOk};
-ghost use Rattle.std.specs.List.{slice_get};
+ghost use Rattle.std.specs.Prelude.{◌≡◌, ◌<◌, [], ◌∷◌, length, map, true, None, Some, IfOk, IfSome};
+ghost use Rattle.std.specs.List.{list_all, slice_get};
 ghost use Rattle.dr_levels.specs.Views.{triplets_view};
+ghost use Rattle.dr_beside.specs.Neighbours.{column_at};
 ghost use Rattle.dr_group.specs.Groups.{put_of};
 ghost use Rattle.dr_group.specs.Maps.{gatherings_view, tuples_view};
 ghost use Rattle.dr_scalar.specs.Slots.{slot_value};
+ghost use Rattle.dr_columns.specs.LeafRows.{cell_tuples};
+ghost use Rattle.dr_columns.specs.LeafRowsView.{leaf_left};
+ghost use Rattle.dr_rows_beside.specs.RecordRows.{rows_of};
+ghost use Rattle.dr_rows_beside.specs.Rows.{source_view, is_fed, is_apart, all_apart};
 ghost use Rattle.dr_rows_beside.specs.RowsView.{rows_view};
 ghost use Rattle.dr_columns.specs.RowPuts.{keys_in, groups_in};
 ghost use Rattle.dr_columns.specs.Numbers.{tuples_at, are_among, Stay, HasPut};
@@ -13,11 +18,12 @@ ghost use Rattle.dr_columns.specs.Takings.{fired_view, fired_rows, CanFire};
 
 use crate::firing::Fired;
 use crate::keys::{push_key, slot};
-use crate::own_rows::put_own_numbers;
+use crate::leaf_groups::put_leaf_numbers;
+use crate::leaf_rows::LeafRows;
 use dr_group::GroupMap;
 use dr_levels::{Triplets, ValueRef};
 use dr_memory::NoMemory;
-use dr_rows_beside::{Place, Rows};
+use dr_rows_beside::{Rows, Source};
 use std::alloc::Global;
 
 /// A number of a group in 32 bits.
@@ -83,17 +89,26 @@ fn put_numbers<'r>(
     Ok(())
 }
 
-/// Whether a leaf is the only key.
-fn is_only(keys: &[u32], leaf: u32) -> bool
-    ensures { result ≡ true → keys.now ≡ leaf ∷ [] }
+/// The only key's values in the rows of a source; none where the keys are several, or the leaf isn't read there.
+fn key_rows<'r>(keys: &[u32], source: &Source, columns: &[Triplets<'r>]) -> Option<LeafRows<'r>>
+    requires leaf { (source.now).leaf < length columns.now }
+    requires apart { is_apart (source.now).leaf
+        (map (source_view (map triplets_view columns.now)) ((source.now).beside).items) ≡ true }
+    requires different { all_apart
+        (map (source_view (map triplets_view columns.now)) ((source.now).beside).items) ≡ true }
+    requires fed { list_all (is_fed (column_at (map triplets_view columns.now) (source.now).leaf) (length columns.now))
+        (map (source_view (map triplets_view columns.now)) ((source.now).beside).items) ≡ true }
+    ensures { IfSome result (λ r. cell_tuples (leaf_left r) ≡ map (keys_in keys.now)
+        (rows_of (source.now).leaf ((source.now).beside).items (map triplets_view columns.now))) }
 {
     match keys {
-        [only] => *only == leaf,
-        _ => false,
+        [only] => LeafRows::of(*only, source, columns),
+        _ => None,
     }
 }
 
-/// Puts the number of the group of each of a leaf's rows. Where the leaf is the only key, its values alone are read.
+/// Puts the number of the group of each of a leaf's rows. Where there is one key, its leaf's values alone
+/// are read.
 ///
 /// Errors: want of memory, or of room for a number.
 pub(crate) fn number_rows<'r>(
@@ -112,10 +127,8 @@ pub(crate) fn number_rows<'r>(
         ≡ map (keys_in keys.now) (fired_rows (map triplets_view columns.now) (fired_view fired.now))) }
     ensures among { IfOk result (λ done. are_among (length (tuples_view groups.new)) (out.new).items ≡ true) }
 {
-    let leaf = fired.source.leaf;
-    if is_only(keys, leaf) {
-        let mut own = Place::new(leaf, 0, columns);
-        return put_own_numbers(alloc, &mut own, groups, out);
+    if let Some(mut rows) = key_rows(keys, &fired.source, columns) {
+        return put_leaf_numbers(alloc, &mut rows, groups, out);
     }
     let mut rows = Rows::new(alloc, &fired.source, columns)?;
     put_numbers(alloc, keys, &mut rows, groups, out)

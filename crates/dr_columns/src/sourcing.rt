@@ -5,7 +5,7 @@ ghost use Rattle.std.specs.List.{list_all, flat_map};
 ghost use Rattle.dr_levels.specs.Views.{triplets_view};
 ghost use Rattle.dr_beside.specs.Neighbours.{column_at};
 ghost use Rattle.dr_group.specs.Maps.{gatherings_view, tuples_view};
-ghost use Rattle.dr_rows_beside.specs.Rows.{source_view, is_fed, is_apart};
+ghost use Rattle.dr_rows_beside.specs.Rows.{source_view, is_fed, is_apart, all_apart};
 ghost use Rattle.dr_rows_beside.specs.RecordRows.{rows_of};
 ghost use Rattle.dr_columns.specs.RowPuts.{keys_in};
 ghost use Rattle.dr_columns.specs.Numbers.{tuples_at, are_among, HasPut};
@@ -22,15 +22,15 @@ ghost use Rattle.dr_columns.specs.Takings.{
 
 use crate::firing::Fired;
 use crate::keyless::take_keyless;
+use crate::leaf_groups::take_leaf;
 use crate::numbering::number_rows;
-use crate::own::is_own;
-use crate::own_rows::take_own;
+use crate::own::own_rows;
 use crate::taking::{Taking, take_rows, take_values};
 use dr_group::GroupMap;
 use dr_levels::Triplets;
 use dr_memory::NoMemory;
 use dr_plan::Aggregate;
-use dr_rows_beside::{Place, Rows, Source};
+use dr_rows_beside::{Rows, Source};
 use std::alloc::Global;
 
 /// Takes the rows of a source for an aggregate, by the numbers of their groups.
@@ -47,6 +47,8 @@ fn take_one<'r>(
     requires leaf { (source.now).leaf < length columns.now }
     requires apart { is_apart (source.now).leaf
         (map (source_view (map triplets_view columns.now)) ((source.now).beside).items) ≡ true }
+    requires different { all_apart
+        (map (source_view (map triplets_view columns.now)) ((source.now).beside).items) ≡ true }
     requires fed { list_all (is_fed (column_at (map triplets_view columns.now) (source.now).leaf) (length columns.now))
         (map (source_view (map triplets_view columns.now)) ((source.now).beside).items) ≡ true }
     requires among { are_among (length (tuples_view groups.old)) numbers.now ≡ true }
@@ -61,9 +63,8 @@ fn take_one<'r>(
     match taking.aggregate {
         Aggregate::Rows => take_rows(alloc, taking.number, numbers, groups),
         Aggregate::Of(_, expression) => {
-            if is_own(expression, source.leaf, columns[source.leaf as usize]) {
-                let mut own = Place::new(source.leaf, 0, columns);
-                return take_own(alloc, taking.number, &mut own, numbers, groups);
+            if let Some(mut rows) = own_rows(expression, source, columns) {
+                return take_leaf(alloc, taking.number, &mut rows, numbers, groups);
             }
             let mut rows = Rows::new(alloc, source, columns)?;
             take_values(alloc, taking.number, expression, &mut rows, numbers, groups)
@@ -84,6 +85,8 @@ fn take_each<'r>(
 ) -> Result<(), NoMemory>
     requires leaf { (source.now).leaf < length columns.now }
     requires apart { is_apart (source.now).leaf
+        (map (source_view (map triplets_view columns.now)) ((source.now).beside).items) ≡ true }
+    requires different { all_apart
         (map (source_view (map triplets_view columns.now)) ((source.now).beside).items) ≡ true }
     requires fed { list_all (is_fed (column_at (map triplets_view columns.now) (source.now).leaf) (length columns.now))
         (map (source_view (map triplets_view columns.now)) ((source.now).beside).items) ≡ true }

@@ -30,12 +30,12 @@ each_test : (test : Follower → Bool) (C : List (List Triplet)) (bs : List Besi
 each_test test C [] h = refl
 each_test test C (b ∷ bs) h = and_from _ _ (h 0 b refl) (each_test test C bs (λ i x e. h (suc i) x e))
 
-view_at : (C : List (List Triplet)) (bs : List Beside) (i : ℕ) (b : Beside) → slice_get bs i ≡ Some b → slice_get (map (source_view C) bs) i ≡ Some (source_view C b)
+pub view_at : (C : List (List Triplet)) (bs : List Beside) (i : ℕ) (b : Beside) → slice_get bs i ≡ Some b → slice_get (map (source_view C) bs) i ≡ Some (source_view C b)
 view_at C [] i b e = absurd (cc)
 view_at C (x ∷ bs) zero b e = let k : x ≡ b = cc in ap (λ (y : Beside). Some (source_view C y)) k
 view_at C (x ∷ bs) (suc i) b e = view_at C bs i b e
 
-none_there : (n k : ℕ) → slot_at (replicate n None) k ≡ None
+pub none_there : (n k : ℕ) → slot_at (replicate n None) k ≡ None
 none_there zero k = refl
 none_there (suc n) zero = refl
 none_there (suc n) (suc k) = none_there n k

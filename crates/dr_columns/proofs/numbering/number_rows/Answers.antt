@@ -5,32 +5,27 @@ use Rattle.dr_partials.specs.Putting.{Put}
 use Rattle.dr_levels.specs.Views.{triplets_view}
 use Rattle.dr_beside.specs.Neighbours.{column_at}
 use Rattle.dr_columns.specs.Numbers.{HasPut}
-use Rattle.dr_columns.specs.OwnRows.{own_values, own_tuples, own_groups}
-use Rattle.dr_rows_beside.specs.Places.{place_left}
+use Rattle.dr_columns.specs.LeafRows.{cell_tuples}
+use Rattle.dr_columns.specs.LeafRowsView.{leaf_left}
 use Rattle.dr_rows_beside.specs.RecordRows.{rows_of}
 use Rattle.dr_columns.specs.RowPuts.{keys_in, groups_in}
-use Rattle.dr_rows_beside.specs.Rows.{Row, run, in_slot, source_view}
+use Rattle.dr_rows_beside.specs.Rows.{Row, run, source_view}
 use Rattle.dr_rows_beside.specs.RowsView.{rows_view}
-use Rattle.dr_columns.proofs.OwnRowLemmas.{own_keys, own_rows, own_in_slot}
+use Rattle.dr_columns.specs.Takings.{fired_view, fired_rows}
+use Rattle.dr_columns.proofs.LeafRowLemmas.{groups_of_rows}
 use Rattle.dr_columns.proofs.numbering.number_rows.Goals as goal
 
-pub returns-then-is_only : goal.returns-then-is_only
-returns-then-is_only c =
-    let C = map triplets_view c.args.columns.now in
-    let leaf = c.args.fired.now.source.leaf in
-    let bs = c.args.fired.now.source.beside.items in
+pub returns-in-Some : goal.returns-in-Some
+returns-in-Some c =
+    let rs : List Row = fired_rows (map triplets_view c.args.columns.now) (fired_view c.args.fired.now) in
     let ks = c.args.keys.now in
-    let rs : List Row = rows_of leaf bs C in
-    let only : ks ≡ leaf ∷ [] = c.is_only.ensures c.if-is_only.true in
-    let left : place_left c.new-own.result ≡ column_at C leaf = c.new-own.ensures.left in
-    let own : in_slot leaf rs ≡ own_values (column_at C leaf) = own_in_slot leaf bs C c.requires.leaf c.requires.apart in
-    let groups : own_groups (place_left c.new-own.result) ≡ groups_in ks rs = ap own_groups left ∙ own_rows leaf rs (column_at C leaf) own ∙ ap (λ (js : List ℕ). groups_in js rs) (sym only) in
-    let tuples : own_tuples (place_left c.new-own.result) ≡ map (keys_in ks) rs = ap own_tuples left ∙ own_keys leaf rs (column_at C leaf) own ∙ ap (λ (js : List ℕ). map (keys_in js) rs) (sym only) in
+    let vs = leaf_left c.in-Some.rows in
+    let tuples : cell_tuples vs ≡ map (keys_in ks) rs = c.in-Some.ensures in
     record {
-      put = IfOk-weaker c.put_own_numbers.result _ _ (λ done h. subst (λ (ps : List Put). HasPut c.args.groups.now ps c.put_own_numbers.new.groups) groups h) c.put_own_numbers.ensures.put;
-      gatherings = c.put_own_numbers.ensures.gatherings;
-      numbers = IfOk-weaker c.put_own_numbers.result _ _ (λ done h. h ∙ tuples) c.put_own_numbers.ensures.numbers;
-      among = c.put_own_numbers.ensures.among;
+      put = IfOk-weaker c.put_leaf_numbers.result _ _ (λ done h. subst (λ (ps : List Put). HasPut c.args.groups.now ps c.put_leaf_numbers.new.groups) (groups_of_rows ks rs vs tuples) h) c.put_leaf_numbers.ensures.put;
+      gatherings = c.put_leaf_numbers.ensures.gatherings;
+      numbers = IfOk-weaker c.put_leaf_numbers.result _ _ (λ done h. h ∙ tuples) c.put_leaf_numbers.ensures.numbers;
+      among = c.put_leaf_numbers.ensures.among;
     }
 
 pub returns-clause-put : goal.returns-clause-put

@@ -4,19 +4,15 @@ use Rattle.std.proofs.lemmas.List.{length-map}
 use Rattle.dr_meaning.specs.Record.{Value}
 use Rattle.dr_partials.specs.Putting.{Put}
 use Rattle.dr_levels.specs.Views.{triplets_view}
-use Rattle.dr_agreement.proofs.OutlinedLemmas.{column_of}
 use Rattle.dr_beside.specs.Neighbours.{column_at}
 use Rattle.dr_group.specs.Maps.{tuples_view}
 use Rattle.dr_rows_beside.specs.ExprRows.{value_in}
 use Rattle.dr_columns.specs.Numbers.{row_puts, value_puts, tuples_at, HasPut}
-use Rattle.dr_columns.specs.OwnRows.{own_values}
-use Rattle.dr_rows_beside.specs.Places.{place_left}
 use Rattle.dr_rows_beside.specs.RecordRows.{rows_of}
 use Rattle.dr_rows_beside.specs.Rows.{Row, run, source_view}
 use Rattle.dr_rows_beside.specs.RowsView.{rows_view}
 use Rattle.dr_columns.specs.Takings.{puts_by}
 use Rattle.dr_columns.proofs.NumberLemmas.{rows_put, values_put}
-use Rattle.dr_columns.proofs.OwnRowLemmas.{own_in_rows}
 use Rattle.dr_columns.proofs.sourcing.take_one.Goals as goal
 
 pub returns-in-Rows-clause-put : goal.returns-in-Rows-clause-put
@@ -40,18 +36,12 @@ returns-in_ok-rows-in-Of-clause-put c =
     (ap (λ (us : List Row). value_puts i (tuples_at (tuples_view c.args.groups.now) c.args.numbers.now) (map (value_in x) us)) same
     ∙ (ap (λ (ts : List (List (Option Value))). value_puts i ts (map (value_in x) rs)) e ∙ (values_put ks i (value_in x) rs ∙ ap (puts_by ks rs i) (sym c.in-Of.is)))) h) c.take_values.ensures.put
 
-pub returns-then-is_own-clause-put : goal.returns-then-is_own-clause-put
-returns-then-is_own-clause-put c =
+pub returns-in-Some-clause-put : goal.returns-in-Some-clause-put
+returns-in-Some-clause-put c =
     let C = map triplets_view c.args.columns.now in
-    let leaf = c.args.source.now.leaf in
-    let bs = c.args.source.now.beside.items in
-    let rs : List Row = rows_of leaf bs C in
+    let rs : List Row = rows_of c.args.source.now.leaf c.args.source.now.beside.items C in
     let i = c.args.taking.number in
     let x = c.in-Of.expression in
-    let t = c.index-columns-source.result in
-    let within : leaf < length C = omega (arith, c.requires.leaf, length-map c.args.columns.now triplets_view) in
-    let column : triplets_view t ≡ column_at C leaf = column_of c.args.columns.now leaf t c.requires.leaf c.index-columns-source.is in
-    let own : own_values (place_left c.new-own.result) ≡ map (value_in x) rs = ap own_values c.new-own.ensures.left ∙ own_in_rows x leaf bs C (triplets_view t) within c.requires.apart column (c.is_own.ensures c.if-is_own.true) in
-    IfOk-weaker c.take_own.result _ _ (λ done h ks e. subst (λ (ps : List Put). HasPut c.args.groups.now ps c.take_own.new.groups)
-    (ap (value_puts i (tuples_at (tuples_view c.args.groups.now) c.args.numbers.now)) own
-    ∙ (ap (λ (ts : List (List (Option Value))). value_puts i ts (map (value_in x) rs)) e ∙ (values_put ks i (value_in x) rs ∙ ap (puts_by ks rs i) (sym c.in-Of.is)))) h) c.take_own.ensures.put
+    IfOk-weaker c.take_leaf.result _ _ (λ done h ks e. subst (λ (ps : List Put). HasPut c.args.groups.now ps c.take_leaf.new.groups)
+    (ap (value_puts i (tuples_at (tuples_view c.args.groups.now) c.args.numbers.now)) c.in-Some.ensures
+    ∙ (ap (λ (ts : List (List (Option Value))). value_puts i ts (map (value_in x) rs)) e ∙ (values_put ks i (value_in x) rs ∙ ap (puts_by ks rs i) (sym c.in-Of.is)))) h) c.take_leaf.ensures.put
