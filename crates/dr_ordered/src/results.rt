@@ -22,8 +22,8 @@ pub struct Order {
     pub descending: bool,
 }
 
-/// A result in order, where that is asked, and then cut behind so many objects, where that is. NULL comes first, or last
-/// where the order descends; objects that tie stay as they stand, both ways.
+/// A result in order, where that is asked, and then cut behind so many objects, where that is. NULL comes first, or
+/// last where the order descends; objects that tie stay as they stand, both ways.
 ///
 /// Errors: want of memory alone.
 pub fn arranged(

@@ -32,7 +32,8 @@ fn over<'a>(
     inner: Option<Nested<'a>>,
     select: Select<'a>,
 ) -> Result<Nested<'a>, NoMemory>
-    ensures { IfOk result (λ n. nested_view n ≡ nested.over_from (select_view select.entry) (maybe_nested inner.entry)) }
+    ensures { IfOk result (λ n. nested_view n
+        ≡ nested.over_from (select_view select.entry) (maybe_nested inner.entry)) }
 {
     match inner {
         Some(mut below) => {
