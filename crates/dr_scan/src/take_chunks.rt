@@ -21,6 +21,7 @@ ghost use Rattle.dr_scan.specs.Chunked.{batch_forms, hand_forms, IsChunked, Goes
 ghost use Rattle.dr_scan.specs.Served.{ReadsLeaves};
 ghost use Rattle.dr_scan.specs.Streamed.{AreLeafStreams};
 
+use crate::fault::file_fault;
 use crate::leaf_stream::LeafStream;
 use crate::leaf_streams::read_at;
 use dr_agreement::Kept;
@@ -28,7 +29,6 @@ use dr_columns::{Chunks, Step};
 use dr_file::FileFault;
 use dr_memory::NoMemory;
 use dr_outside::Link;
-use crate::fault::file_fault;
 use dr_table::Steps;
 use dr_walk::AssembleFault;
 use std::alloc::Global;
