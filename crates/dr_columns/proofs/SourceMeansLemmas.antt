@@ -1,18 +1,18 @@
 -- What is put of the rows of a leaf at which a plan's aggregates take is what their readings put of records.
-use Rattle.std.proofs.Common.{◌≡◌, ℕ, suc, List, [], ◌∷◌, ◌++◌, map, Bool, true, false, Option, Some, None, refl, sym, ap, ap₂, subst, ◌∙◌}
+use Rattle.std.proofs.Common.{◌≡◌, ℕ, suc, List, [], ◌∷◌, ◌++◌, map, length, Bool, true, false, Option, Some, None, refl, sym, ap, ap₂, subst, ◌∙◌}
 use Rattle.std.specs.Prelude.{if◌then◌else◌}
-use Rattle.std.specs.List.{list_all, slice_get, flat_map}
+use Rattle.std.specs.List.{list_all, slice_get, flat_map, filter_map, cons_option}
 use Rattle.std.proofs.lemmas.Bool.{and_parts, eqb-true}
 use Rattle.dr_meaning.specs.Schema.{Fields}
 use Rattle.dr_meaning.specs.Path.{Step, Leaf, paths_of_leaves, chain_end}
 use Rattle.dr_meaning.specs.Record.{Node, is_record}
-use Rattle.dr_meaning.specs.Column.{Triplet}
 use Rattle.dr_meaning.specs.Rows.{rows}
-use Rattle.dr_meaning.specs.Expression.{evaluate}
+use Rattle.dr_meaning.specs.Expression.{Expression, evaluate}
+use Rattle.dr_meaning.specs.Kept.{kept}
 use Rattle.dr_meaning.specs.MeaningLaws.{group_term_paths}
 use Rattle.dr_meaning.specs.Query.{GroupTerm}
 use Rattle.dr_meaning.specs.BindingLaws.{has_shapes}
-use Rattle.dr_meaning.proofs.HasShapesLemmas.{records_have_shapes, rows_have_shapes}
+use Rattle.dr_meaning.proofs.HasShapesLemmas.{records_have_shapes, rows_have_shapes, kept_have_shapes}
 use Rattle.std.proofs.lemmas.List.Folds.{list_all-append}
 use Rattle.std.proofs.lemmas.Bool.{and_from}
 use Rattle.dr_partials.specs.PartialLaws.{all_related}
@@ -29,25 +29,42 @@ use Rattle.dr_condition.proofs.LeavesBelow.{are_below, both_below, leaves_below}
 use Rattle.dr_condition.proofs.ReadRows.{same_paths, rows_typed, AreLeavesOf}
 use Rattle.std.proofs.lemmas.List.{map-append}
 use Rattle.dr_partials.specs.Readings.{puts_of_reading, puts_of_groups}
-use Rattle.dr_beside.specs.Chunks.{HasColumns}
 use Rattle.dr_rows_beside.specs.declared.source.Beside.{Beside}
 use Rattle.dr_rows_beside.specs.Rows.{Row}
-use Rattle.dr_rows_beside.specs.RecordRows.{AreBeside, rows_of}
+use Rattle.dr_rows_beside.specs.RecordRows.{AreBeside}
+use Rattle.dr_rows_beside.specs.Slots.{EachSlot}
 use Rattle.dr_rows_beside.specs.Sources.{AreReadBeside, all_beside, AreOnItsChain}
 use Rattle.dr_columns.specs.RowPuts.{paths_at, groups_in}
-use Rattle.dr_columns.specs.Takings.{Take, aggregate_leaves, taken_at, same_leaf, takings_at, read_of, fires_at, taking_puts, source_puts}
+use Rattle.dr_columns.specs.Takings.{Take, aggregate_leaves, taken_at, same_leaf, takings_at, read_of, taking_puts, read_puts}
+use Rattle.dr_columns.specs.ChunksTaken.{ReadsRows}
 use Rattle.dr_agreement.proofs.OutlinedLemmas.{same_at}
-use Rattle.dr_columns.proofs.RowPutLemmas.{puts_of_source}
+use Rattle.dr_columns.proofs.RowPutLemmas.{puts_of_read}
 use Rattle.dr_rows_beside.proofs.SourceLemmas.{sources_are_beside}
 use Rattle.dr_columns.proofs.SourceReadLemmas.{AreInOrder, IsLastOf, last_of, reading_of, reading_by, chain_read}
 
--- ---- rows of records are typed
+-- ---- rows of nodes with the schema's shapes are typed, and so is what is left of records
 
-all_shaped : (fs : Fields) (p : List Step) (R : List Node) → list_all (is_record fs) R ≡ true → list_all (has_shapes fs) (flat_map (rows p) R) ≡ true
+pub left_shaped : (fs : Fields) (c : Option Expression) (R : List Node) → list_all (is_record fs) R ≡ true → list_all (has_shapes fs) (filter_map (kept c) R) ≡ true
+left_shaped fs c [] h = refl
+left_shaped fs c (n ∷ R) h =
+    let w : (is_record fs n ≡ true) × (list_all (is_record fs) R ≡ true) = and_parts _ _ h in
+    by_kept (kept c n) refl (records_have_shapes fs n w.0) (left_shaped fs c R w.1)
+  where
+    by_kept : (o : Option Node) → kept c n ≡ o → has_shapes fs n ≡ true → list_all (has_shapes fs) (filter_map (kept c) R) ≡ true → list_all (has_shapes fs) (cons_option o (filter_map (kept c) R)) ≡ true
+    by_kept None e s r = r
+    by_kept (Some m) e s r = and_from _ _ (kept_have_shapes fs c n m e s) r
+
+pub records_shaped : (fs : Fields) (R : List Node) → list_all (is_record fs) R ≡ true → list_all (has_shapes fs) R ≡ true
+records_shaped fs [] h = refl
+records_shaped fs (n ∷ R) h =
+    let w : (is_record fs n ≡ true) × (list_all (is_record fs) R ≡ true) = and_parts _ _ h in
+    and_from _ _ (records_have_shapes fs n w.0) (records_shaped fs R w.1)
+
+all_shaped : (fs : Fields) (p : List Step) (R : List Node) → list_all (has_shapes fs) R ≡ true → list_all (has_shapes fs) (flat_map (rows p) R) ≡ true
 all_shaped fs p [] h = refl
 all_shaped fs p (n ∷ R) h =
-    let w : (is_record fs n ≡ true) × (list_all (is_record fs) R ≡ true) = and_parts _ _ h in
-    list_all-append (has_shapes fs) (rows p n) (flat_map (rows p) R) ∙ and_from _ _ (rows_have_shapes fs p n (records_have_shapes fs n w.0)) (all_shaped fs p R w.1)
+    let w : (has_shapes fs n ≡ true) × (list_all (has_shapes fs) R ≡ true) = and_parts _ _ h in
+    list_all-append (has_shapes fs) (rows p n) (flat_map (rows p) R) ∙ and_from _ _ (rows_have_shapes fs p n w.0) (all_shaped fs p R w.1)
 
 all_typed : (fs : Fields) (ls : List Leaf) → AreLeavesOf fs ls → (N : List Node) → list_all (has_shapes fs) N ≡ true → list_all (are_typed ls) N ≡ true
 all_typed fs ls o [] h = refl
@@ -55,7 +72,7 @@ all_typed fs ls o (n ∷ N) h =
     let w : (has_shapes fs n ≡ true) × (list_all (has_shapes fs) N ≡ true) = and_parts _ _ h in
     and_from _ _ (rows_typed fs ls o n w.0) (all_typed fs ls o N w.1)
 
-pub typed_rows : (fs : Fields) (ls : List Leaf) → AreLeavesOf fs ls → (p : List Step) (R : List Node) → list_all (is_record fs) R ≡ true → list_all (are_typed ls) (flat_map (rows p) R) ≡ true
+pub typed_rows : (fs : Fields) (ls : List Leaf) → AreLeavesOf fs ls → (p : List Step) (R : List Node) → list_all (has_shapes fs) R ≡ true → list_all (are_typed ls) (flat_map (rows p) R) ≡ true
 typed_rows fs ls o p R h = all_typed fs ls o (flat_map (rows p) R) (all_shaped fs p R h)
 
 -- ---- a plan of groups
@@ -70,7 +87,7 @@ pub record AreGroupsOf (fs : Fields) (ls : List Leaf) (ks : List ℕ) (A : List 
 
 -- ---- leaves on a chain
 
-chain_parts : (F : List (List Step)) (p : List Step) (js ks : List ℕ) → AreOnItsChain F p (js ++ ks) → AreOnItsChain F p js × AreOnItsChain F p ks
+pub chain_parts : (F : List (List Step)) (p : List Step) (js ks : List ℕ) → AreOnItsChain F p (js ++ ks) → AreOnItsChain F p js × AreOnItsChain F p ks
 chain_parts F p [] ks h = (tt, h)
 chain_parts F p (j ∷ js) ks h = let w : AreOnItsChain F p js × AreOnItsChain F p ks = chain_parts F p js ks h.1 in ((h.0, w.0), w.1)
 
@@ -136,30 +153,31 @@ module _ (fs : Fields) (ls : List Leaf) (ks : List ℕ) (k : ℕ) (p : List Step
 
   -- ---- what is put
 
-  module _ (C : List (List Triplet)) (n : ℕ) (S : List Node) (x : HasColumns fs (paths_of_leaves ls) C n S) (l : AreLeavesOf fs ls) (bs : List Beside) (w : AreBeside (paths_of_leaves ls) k p bs) (b : AreReadBeside k bs ks) where
-    abbrev rs : List Row
-    rs = rows_of k bs C
+  module _ (N : List Node) (bs : List Beside) (rs : List Row) (long : length rs ≡ length (flat_map (rows (chain_end p)) N)) (slots : (js : List ℕ) → AreReadBeside k bs js → EachSlot ls js rs (flat_map (rows (chain_end p)) N))
+      (typed : list_all (are_typed ls) (flat_map (rows (chain_end p)) N) ≡ true) (b : AreReadBeside k bs ks) where
+    abbrev ms : List Node
+    ms = flat_map (rows (chain_end p)) N
 
-    pub groups_mean : groups_in ks rs ≡ puts_of_groups (paths_at ls ks) (flat_map (rows (chain_end p)) S)
-    groups_mean = (puts_of_source fs ls C n S k p bs ks x o.leaves w b).0
+    pub groups_mean : groups_in ks rs ≡ puts_of_groups (paths_at ls ks) ms
+    groups_mean = (puts_of_read ls ks rs ms long (slots ks b)).0
 
     one_means : (i : ℕ) (a : Aggregate) → IsTakenHere (record { number = i; aggregate = a }) → AreReadBeside k bs (aggregate_leaves a)
-        → taking_puts ks rs (record { number = i; aggregate = a }) ≡ puts_of_reading (paths_at ls ks) S (reading_by ls ks i a)
+        → taking_puts ks rs (record { number = i; aggregate = a }) ≡ puts_of_reading (paths_at ls ks) N (reading_by ls ks i a)
     one_means i Aggregate.Rows h c =
-        (puts_of_source fs ls C n S k p bs ks x o.leaves w b).1 i ∙ ap (λ (q : List Step). puts_of_rows (paths_at ls ks) i (λ (row : Node). None) (flat_map (rows q) S)) h.0
+        (puts_of_read ls ks rs ms long (slots ks b)).1 i ∙ ap (λ (q : List Step). puts_of_rows (paths_at ls ks) i (λ (row : Node). None) (flat_map (rows q) N)) h.0
     one_means i (Aggregate.Of f y) h c =
         let v : (expr_fits ls y ≡ true) × (is_summed f y ≡ true) = and_parts _ _ h.2 in
-        (puts_of_source fs ls C n S k p bs ks x o.leaves w b).2 i y c v.0 (typed_rows fs ls l (chain_end p) S x.0)
-        ∙ ap (λ (q : List Step). puts_of_rows (paths_at ls ks) i (evaluate (expr_view ls y)) (flat_map (rows q) S)) h.0
+        (puts_of_read ls ks rs ms long (slots ks b)).2 i y (slots (expr_leaves y) c) v.0 typed
+        ∙ ap (λ (q : List Step). puts_of_rows (paths_at ls ks) i (evaluate (expr_view ls y)) (flat_map (rows q) N)) h.0
 
     pub takings_mean : (ts : List Take) → Each IsTakenHere ts → AreReadBeside k bs (flat_map (λ (t : Take). aggregate_leaves t.aggregate) ts)
-        → flat_map (taking_puts ks rs) ts ≡ flat_map (puts_of_reading (paths_at ls ks) S) (map (reading_of ls ks) ts)
+        → flat_map (taking_puts ks rs) ts ≡ flat_map (puts_of_reading (paths_at ls ks) N) (map (reading_of ls ks) ts)
     takings_mean [] h c = refl
     takings_mean (t ∷ ts) h c =
         let v : AreReadBeside k bs (aggregate_leaves t.aggregate) × AreReadBeside k bs (flat_map (λ (u : Take). aggregate_leaves u.aggregate) ts) = beside_parts k bs (aggregate_leaves t.aggregate) (flat_map (λ (u : Take). aggregate_leaves u.aggregate) ts) c in
         ap₂ (λ (ps qs : List Put). ps ++ qs) (one_means t.number t.aggregate h.0 v.0) (takings_mean ts h.1 v.1)
 
-  module _ (C : List (List Triplet)) (n : ℕ) (S : List Node) (x : HasColumns fs (paths_of_leaves ls) C n S) (l : AreLeavesOf fs ls) (A : List Aggregate) where
+  module _ (read : ℕ → List Beside → List Row) (N : List Node) (reads : ReadsRows ls read N) (typed : (c : List Step) → list_all (are_typed ls) (flat_map (rows c) N) ≡ true) (A : List Aggregate) where
     abbrev ts : List Take
     ts = takings_at ks (Some k) 0 A
 
@@ -167,8 +185,10 @@ module _ (fs : Fields) (ls : List Leaf) (ks : List ℕ) (k : ℕ) (p : List Step
     bs = all_beside F k [] (read_of ks ts)
 
     pub source_means : AreOnItsChain F p ks → Each IsTakenHere ts
-        → source_puts ks C (fires_at F ks A k) ≡ puts_of_groups (paths_at ls ks) (flat_map (rows (chain_end p)) S) ++ flat_map (puts_of_reading (paths_at ls ks) S) (map (reading_of ls ks) ts)
+        → read_puts ks (read k bs) ts ≡ puts_of_groups (paths_at ls ks) (flat_map (rows (chain_end p)) N) ++ flat_map (puts_of_reading (paths_at ls ks) N) (map (reading_of ls ks) ts)
     source_means g h =
         let w : AreBeside F k p bs × AreReadBeside k bs (read_of ks ts) = sources_are_beside F k p (read_of ks ts) o.differ e (read_on_chain ts g h) in
         let v : AreReadBeside k bs ks × AreReadBeside k bs (flat_map (λ (t : Take). aggregate_leaves t.aggregate) ts) = beside_parts k bs ks (flat_map (λ (t : Take). aggregate_leaves t.aggregate) ts) w.1 in
-        ap₂ (λ (ps qs : List Put). ps ++ qs) (groups_mean C n S x l bs w.0 v.0) (takings_mean C n S x l bs w.0 v.0 ts h v.1)
+        let long : length (read k bs) ≡ length (flat_map (rows (chain_end p)) N) = (reads k p bs ks w.0 v.0).0 in
+        let slots : (js : List ℕ) → AreReadBeside k bs js → EachSlot ls js (read k bs) (flat_map (rows (chain_end p)) N) = λ js a. (reads k p bs js w.0 a).1 in
+        ap₂ (λ (ps qs : List Put). ps ++ qs) (groups_mean N bs (read k bs) long slots (typed (chain_end p)) v.0) (takings_mean N bs (read k bs) long slots (typed (chain_end p)) v.0 ts h v.1)

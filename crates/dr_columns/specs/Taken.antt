@@ -1,5 +1,5 @@
 -- What a scan over columns has taken.
-use Rattle.std.specs.Prelude.{◌≡◌, ℕ, List, [], ◌∷◌, map, length, Bool, true, false, ◌&&◌, None}
+use Rattle.std.specs.Prelude.{◌≡◌, ℕ, List, map, length, Bool, true, false, None}
 use Rattle.std.specs.List.{list_all}
 use Rattle.std.specs.declared.alloc.Global.{Global}
 use Rattle.std.specs.declared.vec.Vec.{Vec}
@@ -12,7 +12,6 @@ use Rattle.dr_partials.specs.Putting.{put_all, puts_of}
 use Rattle.dr_plan.specs.Planned.{plan_leaves, plan_view, planned_query}
 use Rattle.dr_plan.specs.declared.aggregate.Aggregate.{Aggregate}
 use Rattle.dr_plan.specs.declared.plan.GroupItem.{GroupItem}
-use Rattle.dr_plan.specs.declared.expression.Truth.{Truth}
 use Rattle.dr_plan.specs.declared.plan.Plan.{Plan}
 use Rattle.dr_plan.specs.declared.plan.Selection.{Selection}
 use Rattle.dr_group.specs.Maps.{groups_view}
@@ -22,7 +21,8 @@ use Rattle.dr_beside.specs.Neighbours.{EachAlone}
 use Rattle.dr_columns.specs.declared.column_scan.ColumnScan.{ColumnScan}
 use Rattle.dr_agreement.specs.Agreements.{IsOfLeaves}
 use Rattle.dr_columns.specs.Takings.{fired_view, fires_of, takings_view, takings_at}
-use Rattle.dr_columns.specs.ChunksTaken.{IsOfAllGroups}
+use Rattle.dr_columns.specs.ChunksTaken.{IsOfGroups}
+use Rattle.dr_columns.specs.PlanKeeps.{KeepsFor}
 
 -- the paths of a plan's leaves
 abbrev pub plan_paths : Plan → List (List Step)
@@ -33,7 +33,8 @@ pub record HasTaken (s : Schema) (p : Plan) (R : List Node) (x : ColumnScan) : T
   pub keys : Vec ℕ Global
   pub aggregates : Vec Aggregate Global
   pub items : Vec GroupItem Global
-  pub of_groups : IsOfAllGroups s p keys aggregates items
+  pub of_groups : IsOfGroups s p keys aggregates items
+  pub keeps : KeepsFor p x.keeps
   pub of_leaves : IsOfLeaves (plan_paths p) x.agreement
   pub same_keys : x.keys.now ≡ keys.items
   pub fired : map fired_view x.fired.items ≡ fires_of (plan_paths p) keys.items aggregates.items (length (plan_leaves p))
@@ -52,14 +53,10 @@ CanTake C n x = (s : Schema) × (p : Plan) × (R : List Node) × HasTaken s p R 
 
 -- ---- which plans
 
-abbrev pub has_no_tests : List Truth → Bool
-has_no_tests [] = true
-has_no_tests (t ∷ ts) = false
-
 abbrev pub gives_groups : Selection → Bool
 gives_groups (Selection.Objects items o) = false
 gives_groups (Selection.Groups keys aggregates items) = true
 
--- a plan that keeps all records, and gives groups
+-- one that gives groups
 abbrev pub goes_by_columns : Plan → Bool
-goes_by_columns p = has_no_tests p.test.items && gives_groups p.selection
+goes_by_columns p = gives_groups p.selection

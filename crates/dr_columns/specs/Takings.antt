@@ -128,6 +128,14 @@ puts_by ks rs i (Aggregate.Of f e) = puts_in ks i (value_in e) rs
 abbrev pub taking_puts : List ℕ → List Row → Take → List Put
 taking_puts ks rs t = puts_by ks rs t.number t.aggregate
 
+-- of rows that are read at a leaf: their groups, then what is taken
+abbrev pub read_puts : List ℕ → List Row → List Take → List Put
+read_puts ks rs ts = groups_in ks rs ++ flat_map (taking_puts ks rs) ts
+
+-- of each leaf whose rows are of use, by the rows that are read of a leaf with those beside it
+abbrev pub fired_read_puts : List ℕ → (ℕ → List Beside → List Row) → Fires → List Put
+fired_read_puts ks read f = if f.needed then read_puts ks (read f.leaf f.beside) f.takings else []
+
 -- of the rows of a leaf in some columns: their groups, then what is taken
 abbrev pub source_puts : List ℕ → List (List Triplet) → Fires → List Put
 source_puts ks C f = groups_in ks (fired_rows C f) ++ flat_map (taking_puts ks (fired_rows C f)) f.takings

@@ -68,7 +68,7 @@ fn number_of<'a>(
 /// Puts the number of the group of each row. The groups that aren't there are made.
 ///
 /// Errors: want of memory, or of room for a number.
-fn put_numbers<'r>(
+pub(crate) fn put_numbers<'r>(
     alloc: Global,
     keys: &[u32],
     rows: &mut Rows<'r, '_>,

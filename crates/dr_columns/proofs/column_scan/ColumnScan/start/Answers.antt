@@ -1,6 +1,4 @@
-use Rattle.std.proofs.Common.{◌≡◌, ◌∙◌, ℕ, List, None, length, vec_len, ap, ap₂, sym, subst, refl, arith}
-use Rattle.std.proofs.lemmas.Bool.{eqb-true}
-use Rattle.std.proofs.lemmas.List.{nil_from_length}
+use Rattle.std.proofs.Common.{◌≡◌, ◌∙◌, ℕ, List, None, length, ap, ap₂, sym, subst, refl}
 use Rattle.dr_nested.specs.PathView.{paths_view}
 use Rattle.dr_nested.specs.declared.path.Path.{Path}
 use Rattle.dr_meaning.specs.Path.{Step}
@@ -14,7 +12,7 @@ use Rattle.dr_agreement.specs.Agreements.{IsOfLeaves}
 use Rattle.dr_columns.specs.Taken.{gives_groups}
 use Rattle.dr_columns.specs.Takings.{are_numbered, takings_at}
 use Rattle.dr_columns.proofs.PlanChunkLemmas.{plan_numbered}
-use Rattle.dr_columns.proofs.TakenLemmas.{paths_same, has_none, all_fired, has_tests, gives_objects, gives_all, no_lines, items_of, selects_groups}
+use Rattle.dr_columns.proofs.TakenLemmas.{paths_same, has_none, all_fired, no_lines, items_of, selects_groups}
 use Rattle.dr_columns.proofs.column_scan.ColumnScan.start.Goals as goal
 
 pub fired_of-requires-clause-aggregates : goal.fired_of-requires-clause-aggregates
@@ -25,13 +23,13 @@ fired_of-requires-clause-aggregates c =
 pub returns-clause-taken : goal.returns-clause-taken
 returns-clause-taken c = λ s h.
     let p = c.args.plan.now in
-    let zero : vec_len p.test ≡ 0 = eqb-true (vec_len p.test) 0 (sym c.is_empty.ensures ∙ c.if-not-is_empty.false) in
     let agreement = c.in_ok-agreement-in-Groups-2.agreement in
     record {
       keys = c.in-Groups.keys;
       aggregates = c.in-Groups.aggregates;
       items = c.in-Groups.field-2;
-      of_groups = record { of_schema = h; selects = c.in-Groups.is; keeps_all = nil_from_length p.test.items (omega (arith, zero, p.test.ok.0)) };
+      of_groups = record { of_schema = h; selects = c.in-Groups.is };
+      keeps = c.in_ok-keeps-in-Groups-2.ensures;
       of_leaves = subst (λ (F : List (List Step)). IsOfLeaves F agreement) (ap paths_view c.deref.ensures.value ∙ paths_same p.leaves.items) c.in_ok-agreement-in-Groups-2.ensures;
       same_keys = c.deref-in-Groups-2-6.ensures.value;
       fired = all_fired p c.in-Groups.keys c.in-Groups.aggregates _ c.deref-in-Groups-2.result.now c.deref-in-Groups-2-2.result.now c.deref-in-Groups-2-3.result.now
@@ -43,19 +41,11 @@ returns-clause-taken c = λ s h.
           (subst (λ (x : Partial). partial_view x ≡ empty_partial (planned_query (plan_view p))) c.in-Groups-2.is c.in_ok-empty-in-Groups.ensures.partial);
     }
 
-pub returns-then-not-is_empty-clause-told : goal.returns-then-not-is_empty-clause-told
-returns-then-not-is_empty-clause-told c =
-    let p = c.args.plan.now in
-    has_tests (vec_len p.test) p.test.items c.is_empty.result (gives_groups p.selection) (omega (arith, p.test.ok.0)) c.is_empty.ensures c.if-not-is_empty.true
-
 pub returns-in-Objects-clause-told : goal.returns-in-Objects-clause-told
-returns-in-Objects-clause-told c = gives_objects c.args.plan.now.test.items c.args.plan.now.selection (ap gives_groups c.in-Objects.is)
+returns-in-Objects-clause-told c = sym (ap gives_groups c.in-Objects.is)
 
 pub returns-clause-told : goal.returns-clause-told
-returns-clause-told c =
-    let p = c.args.plan.now in
-    let zero : vec_len p.test ≡ 0 = eqb-true (vec_len p.test) 0 (sym c.is_empty.ensures ∙ c.if-not-is_empty.false) in
-    gives_all p.test.items p.selection (nil_from_length p.test.items (omega (arith, zero, p.test.ok.0))) (ap gives_groups c.in-Groups.is)
+returns-clause-told c = sym (ap gives_groups c.in-Groups.is)
 
 pub returns-in-Lines-clause-told : goal.returns-in-Lines-clause-told
 returns-in-Lines-clause-told c =
