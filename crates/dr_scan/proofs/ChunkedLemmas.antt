@@ -21,7 +21,7 @@ use Rattle.dr_partials.specs.Partials.{partial_of}
 use Rattle.dr_group.specs.Partials.{IsPartialOf, partial_view}
 use Rattle.dr_file.specs.OpenedFiles.{rows_of}
 use Rattle.dr_file.specs.declared.opened.Opened.{Opened}
-use Rattle.dr_plan.specs.Planned.{plan_leaves, plan_view, planned_query}
+use Rattle.dr_plan.specs.Planned.{IsOfSchema, plan_leaves, plan_view, planned_query}
 use Rattle.dr_plan.specs.declared.plan.Plan.{Plan}
 use Rattle.dr_table.specs.Counting.{counted}
 use Rattle.dr_scan.specs.FileRecords.{AreLeavesOf, IsFaultOf, assemble_fault}
@@ -32,8 +32,9 @@ use Rattle.dr_agreement.specs.Behind.{IsMore}
 use Rattle.dr_agreement.specs.declared.at_hand.AtHand.{AtHand}
 use Rattle.dr_agreement.specs.declared.at_hand.Kept.{Kept}
 use Rattle.dr_agreement.proofs.BehindLemmas.{behind_all}
-use Rattle.dr_columns.specs.Chunks.{HasTakenChunks, IsAllTaken, IsLent, NoneGoesOn}
-use Rattle.dr_columns.specs.Taken.{plan_paths}
+use Rattle.dr_columns.specs.Chunks.{nothing, BeginsFor, HasTakenChunks, IsAllTaken, IsLent, NoneGoesOn}
+use Rattle.dr_columns.specs.Taken.{HasTaken, plan_paths}
+use Rattle.dr_columns.specs.declared.column_scan.ColumnScan.{ColumnScan}
 use Rattle.dr_columns.specs.declared.chunks.Chunks.{Chunks}
 use Rattle.dr_columns.proofs.StepLemmas.{paths_count}
 use Rattle.dr_scan.specs.Chunked.{batch_forms, hand_forms, same_streams, AreOfStreams, IsChunked}
@@ -41,8 +42,10 @@ use Rattle.dr_scan.specs.Streamed.{batch_at, ends_of, IsTold, AreLeafStreams, Ar
 use Rattle.dr_scan.specs.declared.leaf_stream.LeafStream.{LeafStream}
 use Rattle.dr_scan.specs.declared.opened.Made.{Made}
 use Rattle.dr_scan.proofs.FileLemmas.{whole_opened, streamed_bad, walk_fault}
-use Rattle.dr_scan.proofs.HandingLemmas.{batch_set, same_ends, same_leaf_streams}
-use Rattle.dr_scan.proofs.RestLemmas.{counted_given, given_counted}
+use Rattle.dr_scan.proofs.HandingLemmas.{batch_set, hands_count, same_ends, same_leaf_streams}
+use Rattle.dr_scan.proofs.RestLemmas.{counted_given, given_counted, none_given}
+use Rattle.dr_scan.proofs.LeafLemmas.{plan_leaves_stand}
+use Rattle.dr_scan.specs.Rests.{HasGiven}
 use Rattle.dr_scan.proofs.Tabulated.{tabulated, tabulated_count}
 
 -- ---- streams by their numbers
@@ -186,6 +189,18 @@ pub none_ends : (xs : List LeafStream) (x : Chunks) (vs : List AtHand) → x.lea
 none_ends xs x vs e f ends = record {
   forms = ap (map hand.form_of) e ∙ f;
   ends = λ i z. absurd (true≢false (sym z ∙ (ap (λ (ys : List AtHand). hand.ends_of ys i) e ∙ ends i)));
+}
+
+-- nothing of any column was given or taken
+pub chunks_begin : (s : Schema) (p : Plan) (held : Option Files) (o : Opened) (xs : List LeafStream) (x : Chunks) (vs : List AtHand) (y : ColumnScan) (rows read : ℕ) → IsOfSchema s p → AreLeafStreams held o (plan_leaves p) nothing xs → map hand.form_of vs ≡ batch_forms xs
+    → ((i : ℕ) → hand.here_of vs i ≡ []) → ((i : ℕ) → hand.ends_of vs i ≡ false) → HasTaken s p [] y → (BeginsFor s p vs y → HasTakenChunks s p rows nothing [] x) → x.leaves.items ≡ vs → rows ≡ rows_of o → read ≡ 0 → IsChunked s p held o xs x read
+chunks_begin s p held o xs x vs y rows read planned streams forms none ends taken begun is same zero = record {
+  given = nothing;
+  records = [];
+  streams = streams;
+  taken = subst (λ (r : ℕ). HasTakenChunks s p r nothing [] x) same (begun (record { of_schema = plan_leaves_stand s p planned; as_many = hands_count xs vs forms ∙ streams.as_many; none = none; taken = taken }));
+  of_streams = none_ends xs x vs is forms ends;
+  count = subst (HasGiven (length (plan_leaves p)) nothing) (sym zero) (none_given (length (plan_leaves p)));
 }
 
 -- ---- another stream in the place of one
