@@ -71,8 +71,9 @@ impl<'r> LeafRows<'r> {
             (map (source_view (map triplets_view columns.now)) ((source.now).beside).items) ≡ true }
         requires different { all_apart
             (map (source_view (map triplets_view columns.now)) ((source.now).beside).items) ≡ true }
-        requires fed { list_all (is_fed (column_at (map triplets_view columns.now) (source.now).leaf)
-            (length columns.now)) (map (source_view (map triplets_view columns.now)) ((source.now).beside).items) ≡ true }
+        requires fed { list_all
+            (is_fed (column_at (map triplets_view columns.now) (source.now).leaf) (length columns.now))
+            (map (source_view (map triplets_view columns.now)) ((source.now).beside).items) ≡ true }
         ensures left { IfSome result (λ r. leaf_left r ≡ in_slot leaf
             (rows_of (source.now).leaf ((source.now).beside).items (map triplets_view columns.now))) }
         ensures read { IfSome result (λ r.

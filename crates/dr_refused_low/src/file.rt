@@ -1,11 +1,12 @@
 //! Opened files.
 
-ghost use Rattle.std.specs.Prelude.{◌≡◌, ◌≤◌, ◌<◌, ℕ, List, [], ◌∷◌, length, Some, None, Err, IfOk, IfErr, OnErr};
+ghost use Rattle.std.specs.Prelude.{◌≡◌, ◌≤◌, ◌<◌, ℕ, List, [], ◌∷◌, length, Some, None, Err, IfOk, IfErr, OnOk, OnErr};
 ghost use Rattle.dr_meaning.specs.Path.{Leaf, max_definition};
 ghost use Rattle.dr_formats.specs.File.{Footer, footer_of, most_triplets};
 ghost use Rattle.dr_formats.specs.Opening.{leaf_cause};
 ghost use Rattle.dr_levels.specs.Views.{column_view, column_form, form};
 ghost use Rattle.dr_outside.specs.Telling.{Tells, AsksOnly};
+ghost use Rattle.dr_chunk.specs.Taking.{BeginWith};
 ghost use Rattle.dr_file.specs.Asking.{is_for_path, AsksForLeaves};
 ghost use Rattle.dr_file.specs.OpenedFiles.{IsColumnOf, IsColumnFault, leaf_count, path_of, OverLeafAt, OverLeafByFooter};
 ghost use Rattle.dr_file.specs.Leaving.{LeavesLinkCounted, ServesOpened};
@@ -53,9 +54,10 @@ pub fn next_of_stream<L: Link>(
         IfOk result (StreamGoesOn bytes l given (column_view out.old) (column_view out.new) stream.new)) }
     ensures cause { OverStream (L.shows link.old) stream.old (λ bytes l given.
         IfErr result (λ e. IsColumnFault e (leaf_cause bytes l))) }
-    // Whatever the bytes.
+    // Whatever the bytes: how many joined the column, which begins with what it was.
     ensures fills { IfOk result (λ some. Fills some (length (column_view out.old)) (length (column_view out.new))
         (left_of stream.old) (left_of stream.new)) }
+    ensures front { OnOk result (BeginWith (column_view out.old) (column_view out.new)) }
     ensures stays { OnErr result (column_view out.new ≡ column_view out.old) }
     ensures form { column_form out.new ≡ column_form out.old }
     ensures stream_form { stream_form stream.new ≡ stream_form stream.old }
