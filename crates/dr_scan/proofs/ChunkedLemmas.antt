@@ -23,8 +23,8 @@ use Rattle.dr_file.specs.OpenedFiles.{rows_of}
 use Rattle.dr_file.specs.declared.opened.Opened.{Opened}
 use Rattle.dr_plan.specs.Planned.{IsOfSchema, plan_leaves, plan_view, planned_query}
 use Rattle.dr_plan.specs.declared.plan.Plan.{Plan}
-use Rattle.dr_table.specs.Counting.{counted}
-use Rattle.dr_scan.specs.FileRecords.{AreLeavesOf, IsFaultOf, assemble_fault}
+use Rattle.dr_tablets.specs.Counting.{counted}
+use Rattle.dr_tablets.specs.FileRecords.{AreLeavesOf, IsFaultOf, assemble_fault}
 use Rattle.dr_walk.specs.declared.fault.AssembleFault.{AssembleFault}
 use Rattle.dr_walk.specs.Batches.{is_last}
 use Rattle.dr_agreement.specs.AtHand as hand
@@ -194,13 +194,13 @@ none_ends xs x vs e f ends = record {
 -- nothing of any column was given or taken
 pub chunks_begin : (s : Schema) (p : Plan) (held : Option Files) (o : Opened) (xs : List LeafStream) (x : Chunks) (vs : List AtHand) (y : ColumnScan) (rows read : ℕ) → IsOfSchema s p → AreLeafStreams held o (plan_leaves p) nothing xs → map hand.form_of vs ≡ batch_forms xs
     → ((i : ℕ) → hand.here_of vs i ≡ []) → ((i : ℕ) → hand.ends_of vs i ≡ false) → HasTaken s p [] y → (BeginsFor s p vs y → HasTakenChunks s p rows nothing [] x) → x.leaves.items ≡ vs → rows ≡ rows_of o → read ≡ 0 → IsChunked s p held o xs x read
-chunks_begin s p held o xs x vs y rows read planned streams forms none ends taken begun is same unread = record {
+chunks_begin s p held o xs x vs y rows read planned streams forms none ends taken begun is same e = record {
   given = nothing;
   records = [];
   streams = streams;
   taken = subst (λ (r : ℕ). HasTakenChunks s p r nothing [] x) same (begun (record { of_schema = plan_leaves_stand s p planned; as_many = hands_count xs vs forms ∙ streams.as_many; none = none; taken = taken }));
   of_streams = none_ends xs x vs is forms ends;
-  count = subst (HasGiven (length (plan_leaves p)) nothing) (sym unread) (none_given (length (plan_leaves p)));
+  count = subst (HasGiven (length (plan_leaves p)) nothing) (sym e) (none_given (length (plan_leaves p)));
 }
 
 -- ---- another stream in the place of one
