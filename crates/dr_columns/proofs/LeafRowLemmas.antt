@@ -25,7 +25,7 @@ use Rattle.dr_rows_beside.specs.Places.{place_left, LevelsAt}
 use Rattle.dr_rows_beside.specs.RecordRows.{rows_of}
 use Rattle.dr_columns.specs.RowPuts.{keys_in, groups_in}
 use Rattle.dr_rows_beside.specs.Rows.{Follower, Row, follower_view, stepped, slot_at, in_slot, is_apart, all_apart, is_fed, source_view}
-use Rattle.dr_judging.specs.TestRows.{AreReadBeside}
+use Rattle.dr_rows_beside.specs.Sources.{AreReadBeside}
 use Rattle.dr_columns.proofs.NumberLemmas.{no_values}
 use Rattle.dr_rows_beside.proofs.RecordRowLemmas.{view_at, none_there}
 use Rattle.dr_rows_beside.proofs.RunLemmas.{own_slots, rows_run_along}

@@ -62,7 +62,7 @@ impl<'r> LeafRows<'r> {
     ghost use Rattle.dr_columns.specs.LeafRowsView.{leaf_left};
     ghost use Rattle.dr_rows_beside.specs.RecordRows.{rows_of};
     ghost use Rattle.dr_rows_beside.specs.Rows.{source_view, is_fed, is_apart, all_apart, in_slot};
-    ghost use Rattle.dr_judging.specs.TestRows.{AreReadBeside};
+    ghost use Rattle.dr_rows_beside.specs.Sources.{AreReadBeside};
 
     /// Before the first row; none for a leaf that is neither a source's own nor beside it.
     pub(crate) fn of(leaf: u32, source: &Source, columns: &[Triplets<'r>]) -> Option<LeafRows<'r>>

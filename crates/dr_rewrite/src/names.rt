@@ -41,6 +41,11 @@ fn is_reserved(name: &str) -> bool
         || spells(name, "SUM")
         || spells(name, "MIN")
         || spells(name, "MAX")
+        || spells(name, "DISTINCT")
+        || spells(name, "ORDER")
+        || spells(name, "LIMIT")
+        || spells(name, "ASC")
+        || spells(name, "DESC")
 }
 
 /// Appends a name in double quotes.
