@@ -7,6 +7,7 @@ use Rattle.dr_meaning.specs.Column.{Triplet, triplet}
 use Rattle.dr_levels.specs.declared.triplet.Levels.{Levels}
 use Rattle.std.specs.Prelude.{get_or, replicate, ◌≢◌, Result, Ok, Err}
 use Rattle.std.proofs.Math.Seq.{take-suc}
+use mir.Val.{bool_byte}
 use Rattle.std.proofs.lemmas.Bool.Decides.{nat_tests}
 use Rattle.dr_memory.specs.declared.NoMemory.{NoMemory}
 use Rattle.dr_meaning.specs.Schema as tree
@@ -235,3 +236,11 @@ pub stretch_seen : {A : Type 0} (f : A → Value) (items whole : List A) (seen :
 stretch_seen f items whole seen from count w h =
     let n : from + count - from ≡ count = omega arith in
     ap₂ (λ k xs. map f (take k (drop from xs))) n w ∙ sym (take-map f count (drop from items)) ∙ ap (take count) (sym (drop-map f from items) ∙ ap (drop from) (sym h))
+
+byte_by : (b : Bool) → (bool_byte b ≡ (if b then suc zero else zero)) × ((if b then suc zero else zero) ≤ 1)
+byte_by true = (refl, omega arith)
+byte_by false = (refl, omega arith)
+
+-- a place's value as a number: one, or none
+pub value_byte : (g : ℕ) (l : Levels) → (bool_byte (l.definition == g) ≡ present g (l ∷ [])) × (present g (l ∷ []) ≤ 1)
+value_byte g l = byte_by (l.definition == g)

@@ -1,6 +1,6 @@
 //! Levels that join others.
 
-ghost use Rattle.std.specs.Prelude.{◌≡◌, ◌≤◌, ◌+◌, ◌++◌, ◌∷◌, [], length, replicate};
+ghost use Rattle.std.specs.Prelude.{◌≡◌, ◌≤◌, ◌+◌, ◌++◌, length, replicate};
 ghost use Rattle.std.specs.Vec.{vec_len, vec_capacity};
 ghost use Rattle.dr_levels.specs.Dense.{present};
 ghost use Rattle.dr_levels.specs.Columns.{Adds};
@@ -42,12 +42,20 @@ pub fn repeat_levels(levels: &mut Vec<Levels>, same: Levels, count: usize) -> Re
     Ok(())
 }
 
-/// How many values a place has: one, or none.
-fn count_value(greatest: u8, place: &Levels) -> usize
-    ensures count { result ≡ present greatest (place.now ∷ []) }
-    ensures at_most_one { result ≤ 1 }
+/// As many levels are counted in one byte.
+const PIECE: usize = 255;
+
+/// How many of a few places have a value, where this is the leaf's greatest definition level. Many are looked at at once.
+fn count_piece(greatest: u8, levels: &[Levels]) -> u8
+    requires { length levels.now ≤ 255 }
+    ensures count { result ≡ present greatest levels.now }
+    ensures within { result ≤ length levels.now }
 {
-    if place.definition == greatest { 1 } else { 0 }
+    let mut count = 0u8;
+    'levels: for at in 0..levels.len() {
+        count += u8::from(levels[at].definition == greatest);
+    }
+    count
 }
 
 /// How many places have a value, where this is the leaf's greatest definition level.
@@ -55,8 +63,11 @@ pub fn count_present(greatest: u8, levels: &[Levels]) -> usize
     ensures { result ≡ present greatest levels.now }
 {
     let mut count = 0;
-    'levels: for place in levels {
-        count += count_value(greatest, place);
+    let mut rest = levels;
+    'pieces: while rest.len() > PIECE {
+        let (piece, others) = rest.split_at(PIECE);
+        count += usize::from(count_piece(greatest, piece));
+        rest = others;
     }
-    count
+    count + usize::from(count_piece(greatest, rest))
 }

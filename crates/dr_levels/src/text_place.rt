@@ -1,6 +1,7 @@
 //! Places of texts in a buffer.
 
-ghost use Rattle.std.specs.Prelude.{map};
+ghost use Rattle.std.specs.Prelude.{◌<◌, ◌≤◌, ℕ, length, map, get_or};
+ghost use Rattle.dr_levels.specs.declared.text_place.TextPlace.{TextPlace as MeantPlace};
 ghost use Rattle.dr_levels.specs.Texts.{moved};
 ghost use Rattle.dr_levels.specs.Columns.{Adds};
 
@@ -13,6 +14,17 @@ pub struct TextPlace {
     pub length: u32,
 }
 
+/// The greatest place at which one of some texts begins; 0 where there are none.
+fn last_start(places: &[TextPlace]) -> u32
+    ensures { (k : ℕ) (p : MeantPlace) → k < length places.now → (get_or places.now k p).start ≤ result }
+{
+    let mut last = 0;
+    'places: for at in 0..places.len() {
+        last = last.max(places[at].start);
+    }
+    last
+}
+
 /// Appends places, moved behind so many bytes.
 ///
 /// Errors: want of memory, or of room. Nothing has changed then.
@@ -23,17 +35,16 @@ pub fn push_moved(
 ) -> Result<(), NoMemory>
     ensures { Adds places.old.items places.new.items (map (moved behind) more.now) result }
 {
-    let count = places.len();
-    'more: for place in more {
-        let length = place.length;
-        let pushed = match behind.checked_add(place.start) {
-            Some(start) => places.push(TextPlace { start, length }).is_ok(),
-            None => false,
-        };
-        if !pushed {
-            places.truncate(count);
-            return Err(NoMemory);
-        }
+    if behind.checked_add(last_start(more)).is_none() {
+        return Err(NoMemory);
+    }
+    places.reserve(more.len())?;
+    'more: for at in 0..more.len() {
+        let place = more[at];
+        places.push_reserved(TextPlace {
+            start: behind + place.start,
+            length: place.length,
+        });
     }
     Ok(())
 }

@@ -1,7 +1,16 @@
-use Rattle.std.proofs.Common.{◌+◌, ap₂, ◌∙◌, sym, arith}
-use Rattle.dr_levels.proofs.DenseLemmas.{counted_more}
+use Rattle.std.proofs.Common.{◌≡◌, ◌∙◌, ap, arith, take, drop}
+use Rattle.dr_levels.specs.Dense.{present}
+use Rattle.dr_levels.proofs.DenseLemmas.{present-parts}
 use Rattle.dr_levels.proofs.joining.count_present.Goals as goal
 
-pub levels-preserved : goal.levels-preserved
-levels-preserved c =
-    (ap₂ (λ a b. a + b) c.levels.invariant.0 c.count_value-count.ensures.count ∙ sym (counted_more c.args.greatest c.args.levels.now c.levels.place-index _ c.levels-test.true), omega (arith, c.levels.invariant.1, c.count_value-count.ensures.at_most_one))
+pub pieces-preserved : goal.pieces-preserved
+pieces-preserved c =
+    let g = c.args.greatest in
+    let e = c.split_at.ensures in
+    let n = c.count_piece.ensures in
+    let f : c.count_piece.result ≡ present g (take 255 c.pieces.rest.now) = n.count ∙ ap (present g) e.front in
+    let h : present g c.split_at.result.1.now ≡ present g (drop 255 c.pieces.rest.now) = ap (present g) e.back in
+    record {
+      counted = omega (arith, c.from-count.ensures, f, h, present-parts g 255 c.pieces.rest.now, c.pieces.invariant.counted);
+      few = omega (arith, c.from-count.ensures, n.within, e.front_len, e.back_len, c.pieces-test.true, c.pieces.invariant.few);
+    }

@@ -1,7 +1,6 @@
-use Rattle.std.proofs.Common.{◌≡◌, ◌≤◌, ◌+◌, ◌-◌, ℕ, List, ap, ap₂, ◌∙◌, sym, take, drop, length, arith}
+use Rattle.std.proofs.Common.{◌≡◌, ◌-◌, ap, ap₂, ◌∙◌, sym, take, drop, length, arith}
 use Rattle.std.proofs.lemmas.List.{take_all, take_rest}
 use Rattle.dr_nested.specs.Views.{kind_view}
-use Rattle.dr_levels.specs.declared.triplet.Levels.{Levels}
 use Rattle.dr_levels.specs.Dense.{present, joined, values_view}
 use Rattle.dr_levels.specs.Views.{column_view}
 use Rattle.dr_levels.proofs.DenseLemmas.{joined_length, truncated, truncated_count, present-parts}
