@@ -6,7 +6,7 @@ ghost use Rattle.dr_hybrid.specs.declared.unread.Unread.{Unread};
 
 use crate::packable::Packable;
 use crate::runs::Short;
-use crate::single_groups::{GREATEST_SINGLE, unpack_single_groups};
+use crate::single_groups::{GREATEST_SINGLE, unpack_single_runs};
 use crate::unpacking::unpack;
 use crate::unread::{Unread, begin};
 use crate::words::packed_length;
@@ -119,8 +119,7 @@ impl RunReader {
         if self.width > GREATEST_SINGLE {
             return 0;
         }
-        let mask = (1u64 << self.width) - 1;
-        let groups = unpack_single_groups(self.rest(bytes), self.width, mask, out);
+        let groups = unpack_single_runs(self.rest(bytes), self.width, out);
         self.place += groups * (self.width as usize + 1);
         8 * groups
     }

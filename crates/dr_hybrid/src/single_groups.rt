@@ -36,12 +36,7 @@ fn single_group(bytes: &[u8]) -> Option<u64>
 /// Reads the runs of one group with which bytes begin, as many as follow one another and there is room for; one among
 /// the last eight bytes may be left. Answers how many.
 #[inline(always)]
-pub(crate) fn unpack_single_groups<T: Packable>(
-    bytes: &[u8],
-    width: u32,
-    mask: u64,
-    out: &mut [T],
-) -> usize
+fn unpack_single_groups<T: Packable>(bytes: &[u8], width: u32, mask: u64, out: &mut [T]) -> usize
     requires narrow { width ≤ 7 }
     requires low { mask ≡ 2 ^ width - 1 }
     requires held { mask < 2 ^ T.greatest_width }
@@ -63,4 +58,24 @@ pub(crate) fn unpack_single_groups<T: Packable>(
         groups += 1;
     }
     groups
+}
+
+/// The same of a width without its mask. The widths of most levels are known where the loop is compiled, which then
+/// shifts by constants.
+#[inline(always)]
+pub(crate) fn unpack_single_runs<T: Packable>(bytes: &[u8], width: u32, out: &mut [T]) -> usize
+    requires narrow { width ≤ 7 }
+    requires held { width ≤ T.greatest_width }
+    ensures room { 8 * result ≤ length out.old }
+    ensures within { result * (width + 1) ≤ length bytes.now }
+    ensures read { (n : ℕ) → hybrid width (8 * result + n) bytes.now
+        ≡ option_map (λ more. take (8 * result) (T.numbers out.new) ++ more)
+        (hybrid width n (drop (result * (width + 1)) bytes.now)) }
+{
+    match width {
+        1 => unpack_single_groups(bytes, 1, 0b1, out),
+        2 => unpack_single_groups(bytes, 2, 0b11, out),
+        3 => unpack_single_groups(bytes, 3, 0b111, out),
+        _ => unpack_single_groups(bytes, width, (1u64 << width) - 1, out),
+    }
 }

@@ -1,12 +1,13 @@
 -- Texts that are read many at once.
-use Rattle.std.proofs.Common.{◌≡◌, ℕ, zero, suc, ◌+◌, ◌-◌, ◌*◌, ◌≤◌, ◌<◌, List, [], ◌∷◌, ◌++◌, map, length, take, drop, set, get_or, Bool, true, false, refl, sym, ap, ap₂, ◌∙◌, subst, arith}
+use Rattle.std.proofs.Common.{◌≡◌, ℕ, zero, suc, ◌+◌, ◌-◌, ◌*◌, ◌≤◌, ◌<◌, List, [], ◌∷◌, ◌++◌, map, length, take, drop, set, get_or, Bool, true, false, ltb, ltb-true, refl, sym, ap, ap₂, ◌∙◌, subst, arith}
 use Rattle.std.specs.Prelude.{◌&&◌}
 use Rattle.std.specs.List.{All, AllByRecursion}
-use Rattle.std.specs.Str.{IsUtf8, IsCharBoundary}
+use Rattle.std.specs.Str.{IsAscii, IsUtf8, IsCharBoundary}
 use Rattle.std.proofs.lemmas.Bool.{le-leb, false≢true}
 use Rattle.std.proofs.lemmas.List.{length-map, length-take-le, take-take, drop-take, map_push, take_more_set}
 use Rattle.std.proofs.lemmas.List.Elements.{All-nil, All-push, All-more, All-weaker, recursion_from_All}
-use Rattle.std.proofs.lemmas.Str.{is_utf8-from_IsUtf8}
+use Rattle.std.proofs.lemmas.Str.{is_utf8-from_IsUtf8, IsUtf8-from_ascii, IsAscii-take, IsAscii-drop}
+use Rattle.std.proofs.lemmas.Str.Ascii.{IsAscii-more}
 use Rattle.dr_meaning.specs.Schema.{text_kind}
 use Rattle.dr_meaning.specs.Record.{Value, text_value}
 use Rattle.dr_formats.specs.Reading.{Reading, got, refused, goes_on}
@@ -41,7 +42,18 @@ text_between all p a b u l f g e =
     let t = and_both a b e in
     (l, same_part all p.start p.length (part_of_text all all p.start (p.start + p.length) refl u (omega arith) (f t.0) (g t.1)))
 
+-- parts of ASCII bytes are texts
+pub ascii_texts : (bytes : List ℕ) (ps : List TextPlace) → IsAscii bytes → AreWithin (length bytes) ps → AreTexts bytes ps
+ascii_texts bytes ps a w = All-weaker (λ (p : TextPlace). p.start + p.length ≤ length bytes) (IsText bytes)
+    (λ p l. (l, IsUtf8-from_ascii (text_at bytes p) (IsAscii-take (drop p.start bytes) p.length (IsAscii-drop bytes p.start a)))) ps w
+
 -- ---- the loops
+
+-- one more is ASCII
+pub ascii_step : (bytes : List ℕ) (i : ℕ) (ascii : Bool) → i < length bytes → (ascii ≡ true → IsAscii (take i bytes)) → (ascii && ltb (get_or bytes i 0) 128) ≡ true → IsAscii (take (i + 1) bytes)
+ascii_step bytes i ascii h f e =
+    let t = and_both ascii (ltb (get_or bytes i 0) 128) e in
+    IsAscii-more bytes i h (f t.0) (ltb-true (get_or bytes i 0) 128 t.1)
 
 -- one more is a text
 pub texts_step : (all : List ℕ) (ps : List TextPlace) (i : ℕ) (d : TextPlace) (fits b : Bool) → i < length ps → (fits ≡ true → AreTexts all (take i ps)) → (b ≡ true → IsText all (get_or ps i d)) → (fits && b) ≡ true → AreTexts all (take (i + 1) ps)

@@ -1,7 +1,7 @@
 //! Texts that are read many at once.
 
 ghost use Rattle.std.specs.Prelude.{◌≡◌, ◌≤◌, ◌+◌, [], ℕ, List, length, map, drop, IfSome, true};
-ghost use Rattle.std.specs.Str.{IsUtf8};
+ghost use Rattle.std.specs.Str.{IsAscii, IsUtf8};
 ghost use Rattle.dr_formats.specs.Reading.{got};
 ghost use Rattle.dr_formats.specs.Plain.{repeatedly, plain_text};
 ghost use Rattle.dr_bytes.specs.Cutting.{whole, left};
@@ -51,6 +51,9 @@ fn fill_batch<'a>(bytes: &'a [u8], out: &mut [TextPlace]) -> Option<&'a [u8]>
         return None;
     };
     let piece = &bytes[..end];
+    if are_ascii(piece) {
+        return Some(piece);
+    }
     match str::from_utf8(piece) {
         Ok(all) if are_texts(all, out) => Some(piece),
         _ => None,
@@ -93,6 +96,18 @@ fn find_text(cut: &mut Cut<'_>) -> Option<TextPlace>
         Ok(_) => Some(TextPlace { start, length }),
         Err(_) => None,
     }
+}
+
+/// Whether all bytes are ASCII. All are looked at, many at once.
+#[inline]
+fn are_ascii(bytes: &[u8]) -> bool
+    ensures { result ≡ true → IsAscii bytes.now }
+{
+    let mut ascii = true;
+    'bytes: for index in 0..bytes.len() {
+        ascii = ascii & (bytes[index] < 128);
+    }
+    ascii
 }
 
 /// Whether each part of a text at these places is a text. All are looked at.
