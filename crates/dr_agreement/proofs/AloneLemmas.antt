@@ -64,7 +64,7 @@ with_count optional n k ls h = omega (arith, h)
 with_count repeated n k ls h = omega (arith, h)
 
 -- there is one for each repeated field
-least_count : (p : List Step) (n : ℕ) → length (least_levels n p) ≡ max_repetition p
+pub least_count : (p : List Step) (n : ℕ) → length (least_levels n p) ≡ max_repetition p
 least_count [] n = refl
 least_count (s ∷ p) n = let m : ℕ = n + definition_count s.repetition in with_count s.repetition m (max_repetition p) (least_levels m p) (least_count p m)
 

@@ -1,13 +1,13 @@
 -- Levels cut where records begin.
-use Rattle.std.proofs.Common.{◌≡◌, ℕ, zero, suc, ◌+◌, ◌<◌, ◌≤◌, List, [], ◌∷◌, map, length, take, drop, get_or, Bool, true, false, refl, sym, ap, ap₂, ◌∙◌, arith, add-one}
+use Rattle.std.proofs.Common.{◌≡◌, ◌++◌, ◌%◌, set, ℕ, zero, suc, ◌+◌, ◌<◌, ◌≤◌, List, [], ◌∷◌, map, length, take, drop, get_or, ◌-◌, Bool, true, false, refl, sym, ap, ap₂, subst, ◌∙◌, arith, add-one}
 use Rattle.std.specs.Prelude.{◌==◌, if◌then◌else◌}
 use mir.Val.{bool_byte}
-use Rattle.std.proofs.lemmas.List.{length-map, take-map, drop-map}
+use Rattle.std.proofs.lemmas.List.{length-map, take-map, drop-map, map_push, take_more, take_more_set}
 use Rattle.dr_meaning.specs.Column.{Triplet}
 use Rattle.dr_meaning.specs.OneColumn as meant
 use Rattle.dr_levels.specs.Views.{levels_pair, triplet_levels}
 use Rattle.dr_levels.specs.declared.triplet.Levels.{Levels}
-use Rattle.dr_agreement.specs.Cuts.{begins, repetitions, starts, IsCut}
+use Rattle.dr_agreement.specs.Cuts.{begins, definitions, repetitions, starts, IsCut}
 
 starts_taken : (rs : List ℕ) (i : ℕ) → i < length rs → starts (take (suc i) rs) ≡ starts (take i rs) + (if get_or rs i 0 == 0 then 1 else 0)
 starts_taken [] i h = absurd (omega (arith, h))
@@ -53,12 +53,68 @@ cut_end rs i n records at a h c l p = record {
   behind = ends_at rs at (omega (arith, a));
 }
 
+-- ---- a cut of what is behind the first so many
+
+moved_cut : (rs : List ℕ) (at k : ℕ) → IsCut rs at k → IsCut rs (0 + at) (0 + k)
+moved_cut rs at k c =
+    let e : 0 + at ≡ at = omega arith in
+    record {
+      within = omega (arith, c.within);
+      before = ap (λ (m : ℕ). starts (take m rs)) e ∙ omega (arith, c.before);
+      behind = ap (λ (m : ℕ). begins (drop m rs)) e ∙ c.behind;
+    }
+
+cut_behind : (rs : List ℕ) (n at k : ℕ) → n ≤ length rs → IsCut (drop n rs) at k → IsCut rs (n + at) (starts (take n rs) + k)
+cut_behind [] zero at k h c = moved_cut [] at k c
+cut_behind [] (suc n) at k h c = absurd (omega (arith, h))
+cut_behind (r ∷ rs) zero at k h c = moved_cut (r ∷ rs) at k c
+cut_behind (r ∷ rs) (suc n) at k h c =
+    let i = cut_behind rs n at k (omega (arith, h)) c in
+    let e : suc n + at ≡ suc (n + at) = omega arith in
+    record {
+      within = omega (arith, i.within);
+      before = ap (λ (m : ℕ). starts (take m (r ∷ rs))) e ∙ omega (arith, i.before);
+      behind = ap (λ (m : ℕ). begins (drop m (r ∷ rs))) e ∙ i.behind;
+    }
+
+-- the first so many levels begin no more records than are wanted, and the others are cut where the rest of them is
+pub cut_parts : (ls : List Levels) (n at left begun : ℕ) → n ≤ length ls → begun ≡ starts (repetitions (take n ls)) → begun ≤ left → IsCut (repetitions (drop n ls)) at (left - begun) → IsCut (repetitions ls) (n + at) left
+cut_parts ls n at left begun h b f c =
+    let t : take n (repetitions ls) ≡ repetitions (take n ls) = take-map (λ (l : Levels). l.repetition) n ls in
+    let d : drop n (repetitions ls) ≡ repetitions (drop n ls) = drop-map (λ (l : Levels). l.repetition) n ls in
+    let i = cut_behind (repetitions ls) n at (left - begun) (omega (arith, h, length-map ls (λ (l : Levels). l.repetition))) (subst (λ (xs : List ℕ). IsCut xs at (left - begun)) (sym d) c) in
+    let e : starts (take n (repetitions ls)) + (left - begun) ≡ left = omega (arith, ap starts t, b, f) in
+    subst (λ (k : ℕ). IsCut (repetitions ls) (n + at) k) e i
+
+-- the records that begin in the first so many levels, and those in the others
+pub begun_parts : (n : ℕ) (ls : List Levels) → starts (repetitions (take n ls)) + starts (repetitions (drop n ls)) ≡ starts (repetitions ls)
+begun_parts zero ls = omega arith
+begun_parts (suc n) [] = omega arith
+begun_parts (suc n) (l ∷ ls) = omega (arith, begun_parts n ls)
+
 -- ---- levels of triplets
 
 pub repetition_at : (ls : List Levels) (i : ℕ) (d : Levels) → d.repetition ≡ 0 → (get_or ls i d).repetition ≡ get_or (repetitions ls) i 0
 repetition_at [] i d e = e
 repetition_at (l ∷ ls) zero d e = refl
 repetition_at (l ∷ ls) (suc i) d e = repetition_at ls i d e
+
+pub definition_at : (ls : List Levels) (i : ℕ) (d : Levels) → d.definition ≡ 0 → (get_or ls i d).definition ≡ get_or (definitions ls) i 0
+definition_at [] i d e = e
+definition_at (l ∷ ls) zero d e = refl
+definition_at (l ∷ ls) (suc i) d e = definition_at ls i d e
+
+pub remainder_at : (ns : List ℕ) (i : ℕ) → get_or (map (λ n. n % 256) ns) i 0 ≡ get_or ns i 0 % 256
+remainder_at [] zero = refl
+remainder_at [] (suc i) = refl
+remainder_at (n ∷ ns) zero = refl
+remainder_at (n ∷ ns) (suc i) = remainder_at ns i
+
+-- one more level of each place is put
+pub put_more : (f : ℕ → ℕ) (g : Levels → ℕ) (ns : List ℕ) (ls : List Levels) (i n : ℕ) (d : Levels) → i < length ns → i < length ls → f n ≡ g (get_or ls i d) → map f (take i ns) ≡ map g (take i ls)
+    → map f (take (i + 1) (set ns i n)) ≡ map g (take (i + 1) ls)
+put_more f g ns ls i n d h k e s =
+    ap (map f) (take_more_set ns i n h) ∙ (map_push f (take i ns) n ∙ (ap₂ (λ (ys : List ℕ) (y : ℕ). ys ++ y ∷ []) s e ∙ (sym (map_push g (take i ls) (get_or ls i d)) ∙ ap (map g) (sym (take_more ls i d k)))))
 
 pub one_if : (b : Bool) → bool_byte b ≡ (if b then 1 else 0)
 one_if true = refl

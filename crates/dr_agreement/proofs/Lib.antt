@@ -10,3 +10,5 @@ pub mod BehindLemmas
 pub mod AtHandLemmas
 -- the next records of what is at hand
 pub mod FrontsLemmas
+-- levels of a leaf that has few repeated fields
+pub mod ShallowLemmas

@@ -1,5 +1,5 @@
 -- Tests of a leaf's triplets alone.
-use Rattle.std.specs.Prelude.{◌≡◌, ℕ, ◌+◌, List, [], ◌∷◌, Bool, true, false, ◌&&◌, nat_le, Some}
+use Rattle.std.specs.Prelude.{◌≡◌, ℕ, ◌+◌, ◌≤◌, ◌==◌, List, [], ◌∷◌, get_or, Bool, true, false, ◌&&◌, if◌then◌else◌, nat_le, Some}
 use Rattle.std.specs.List.{slice_get}
 use Rattle.dr_meaning.specs.Schema.{Repetition, required, optional, repeated, definition_count}
 use Rattle.dr_meaning.specs.Path.{Step, Leaf, max_repetition, max_definition}
@@ -9,6 +9,7 @@ use Rattle.dr_nested.specs.Views.{kind_view}
 use Rattle.dr_levels.specs.Views.{LeafForm, form}
 use Rattle.dr_beside.specs.Neighbours.{column_at}
 use Rattle.dr_agreement.specs.declared.column_of_leaf.LeafTest.{LeafTest}
+use Rattle.dr_agreement.specs.declared.shallow.Shallow.{Shallow}
 
 -- a field has a least level where it is repeated
 abbrev pub with_least : Repetition → ℕ → List ℕ → List ℕ
@@ -26,6 +27,16 @@ pub record IsTestOf (l : Leaf) (x : LeafTest) : Type 0 where
   pub kind : kind_view x.kind ≡ l.kind
   pub greatest : x.greatest ≡ max_definition l.path
   pub least : x.least.items ≡ 0 ∷ least_levels 0 l.path
+
+-- the least level of a repetition level of at most 3
+abbrev pub shallow_least : Shallow → ℕ → ℕ
+shallow_least x r = if r == 1 then x.first else (if r == 2 then x.second else (if r == 3 then x.third else 0))
+
+-- the test of a path with at most three repeated fields
+pub record IsShallowOf (p : List Step) (x : Shallow) : Type 0 where
+  pub greatest : x.greatest ≡ max_definition p
+  pub most : x.most ≡ max_repetition p
+  pub least : (r : ℕ) → r ≤ max_repetition p → shallow_least x r ≡ get_or (0 ∷ least_levels 0 p) r 0
 
 -- the form of the columns that it tests
 abbrev pub test_form : LeafTest → LeafForm

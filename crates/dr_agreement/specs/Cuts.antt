@@ -6,6 +6,10 @@ use Rattle.dr_levels.specs.declared.triplet.Levels.{Levels}
 abbrev pub repetitions : List Levels → List ℕ
 repetitions ls = map (λ (l : Levels). l.repetition) ls
 
+-- the definition levels
+abbrev pub definitions : List Levels → List ℕ
+definitions ls = map (λ (l : Levels). l.definition) ls
+
 -- the first one, if there is one, begins a record
 abbrev pub begins : List ℕ → Bool
 begins [] = true

@@ -1,6 +1,6 @@
 //! Whether triplets alone are the column of a leaf.
 
-ghost use Rattle.std.specs.Prelude.{◌≡◌, ◌∷◌, ◌≤◌, length, map, true, IfOk};
+ghost use Rattle.std.specs.Prelude.{◌≡◌, ◌∷◌, ◌≤◌, ◌<◌, length, map, get_or, true, IfOk, IfSome, IfNone};
 ghost use Rattle.std.specs.List.{list_all};
 ghost use Rattle.dr_meaning.specs.Path.{Leaf, max_definition};
 ghost use Rattle.dr_meaning.specs.OneColumn.{is_column};
@@ -13,10 +13,14 @@ ghost use Rattle.dr_agreement.specs.Alone.{least_levels};
 ghost use Rattle.dr_levels.specs.Views.{levels_pair, triplets_form, triplets_view};
 
 use crate::cuts::{begin_record, count_begun};
+use crate::shallow::Shallow;
 use dr_levels::{Levels, Triplets, ValuesRef};
 use dr_memory::NoMemory;
 use dr_nested::{Kind, Path, Rep, Step};
 use std::alloc::Global;
+
+/// A leaf with few repeated fields has at most so many repetition levels.
+const SHALLOW: usize = 4;
 
 /// Whether whole numbers of a kind include this one.
 #[inline(always)]
@@ -82,7 +86,7 @@ pub struct LeafTest {
 }
 
 impl LeafTest {
-    ghost use Rattle.dr_agreement.specs.Alone.{each_may_stand, may_stand, test_form, IsTestOf};
+    ghost use Rattle.dr_agreement.specs.Alone.{each_may_stand, may_stand, test_form, IsTestOf, IsShallowOf};
 
     /// Of a leaf.
     ///
@@ -113,8 +117,46 @@ impl LeafTest {
         }
     }
 
-    /// Whether each of these levels may stand behind the one before it.
+    /// The least level of a repetition level; 0 where there is none.
+    fn least_at(&self, repetition: usize) -> u8
+        ensures { result ≡ get_or (self.now).least.items repetition 0 }
+    {
+        match self.least.get(repetition) {
+            Some(least) => *least,
+            None => 0,
+        }
+    }
+
+    /// The test of a leaf that has few repeated fields; none where it has more.
+    fn shallow(&self) -> Option<Shallow>
+        ensures some { IfSome result (λ s. (l : Leaf) → IsTestOf l self.now → IsShallowOf l.path s) }
+        ensures none { IfNone result (4 < length (self.now).least.items) }
+    {
+        if self.least.len() > SHALLOW {
+            return None;
+        }
+        Some(Shallow {
+            greatest: self.greatest,
+            most: self.least.len().saturating_sub(1) as u8,
+            first: self.least_at(1),
+            second: self.least_at(2),
+            third: self.least_at(3),
+        })
+    }
+
+    /// Whether each of these levels may stand behind the one before it. Those of a leaf with few repeated fields are
+    /// looked at many at once.
     fn each_may_stand(&self, levels: &[Levels]) -> bool
+        ensures { (l : Leaf) → IsTestOf l self.now → result ≡ each_may_stand l.path 0 (map levels_pair levels.now) }
+    {
+        match self.shallow() {
+            Some(shallow) => shallow.each_may_stand(levels),
+            None => self.each_by_table(levels),
+        }
+    }
+
+    /// The same, of any leaf.
+    fn each_by_table(&self, levels: &[Levels]) -> bool
         ensures { (l : Leaf) → IsTestOf l self.now → result ≡ each_may_stand l.path 0 (map levels_pair levels.now) }
     {
         let mut before = 0;

@@ -4,6 +4,7 @@
 
 mod agreement;
 mod alone;
+mod apart;
 mod append;
 mod at_hand;
 mod column_of_leaf;
@@ -11,6 +12,7 @@ mod cuts;
 mod fronts;
 mod leaves_at_hand;
 mod outlines;
+mod shallow;
 
 pub use agreement::Agreement;
 pub use alone::{Alone, each_alone, tests_of};

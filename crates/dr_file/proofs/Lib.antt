@@ -20,6 +20,8 @@ mod OutlineLemmas
 mod ColumnLemmas
 -- rows of triplets that come a piece at a time
 mod RowOrderLemmas
+-- levels of a leaf that has few repeated fields
+mod ShallowLemmas
 -- columns of leaves, a batch at a time
 mod LeafStreamLemmas
 mod LeafPlaceLemmas

@@ -19,7 +19,7 @@ starts_append : (ts us : List Triplet) → starts (ts ++ us) ≡ starts ts + sta
 starts_append [] us = omega arith
 starts_append (t ∷ ts) us = omega (arith, starts_append ts us)
 
-and_assoc : (a b c : Bool) → (a && (b && c)) ≡ ((a && b) && c)
+pub and_assoc : (a b c : Bool) → (a && (b && c)) ≡ ((a && b) && c)
 and_assoc true b c = refl
 and_assoc false b c = refl
 

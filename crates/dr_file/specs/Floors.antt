@@ -1,5 +1,5 @@
 -- The definition levels that the instances of a path's repeated fields have at least.
-use Rattle.std.specs.Prelude.{◌≡◌, ◌<◌, ℕ, zero, suc, ◌+◌, List, [], ◌∷◌}
+use Rattle.std.specs.Prelude.{◌≡◌, ◌<◌, ℕ, zero, suc, ◌+◌, ◌==◌, List, [], ◌∷◌, map, if◌then◌else◌}
 use Rattle.std.specs.List.{slice_index_or}
 use Rattle.dr_meaning.specs.Schema.{Repetition, required, optional, repeated, definition_count}
 use Rattle.dr_meaning.specs.Path.{Step, max_definition}
@@ -8,6 +8,7 @@ use Rattle.dr_meaning.specs.Column.{Triplet, triplet}
 use Rattle.std.specs.Prelude.{None}
 use Rattle.dr_levels.specs.declared.triplet.Levels.{Levels}
 use Rattle.dr_file.specs.declared.floors.Floors.{Floors}
+use Rattle.dr_file.specs.declared.shallow.Shallow.{Shallow}
 
 -- a field at this level has a floor where it is repeated
 abbrev pub with_floor : Repetition → ℕ → List ℕ → List ℕ
@@ -40,3 +41,18 @@ least_of p (suc j) = level_inside p j
 -- these are they, of the repetition levels below 256
 abbrev pub AreLeastOf : List Step → List ℕ → Type 0
 AreLeastOf p ls = (r : ℕ) → r < 256 → slice_index_or ls r 0 ≡ least_of p r
+
+-- the one of a repetition level, of a leaf that has few repeated fields
+abbrev pub shallow_least : Shallow → ℕ → ℕ
+shallow_least x r = if r == 0 then 0 else (if r == 1 then x.first else (if r == 2 then x.second else (if r == 3 then x.third else x.others)))
+
+-- these are they, of the path of such a leaf
+abbrev pub AreShallowOf : List Step → Shallow → Type 0
+AreShallowOf p x = (r : ℕ) → shallow_least x r ≡ least_of p r
+
+-- the levels of each kind
+abbrev pub repetitions : List Levels → List ℕ
+repetitions ls = map (λ (l : Levels). l.repetition) ls
+
+abbrev pub definitions : List Levels → List ℕ
+definitions ls = map (λ (l : Levels). l.definition) ls

@@ -1,11 +1,15 @@
 //! Which levels may follow one another in the columns of a leaf.
 
-ghost use Rattle.std.specs.Prelude.{◌≡◌, ◌≤◌, length};
+ghost use Rattle.std.specs.Prelude.{◌≡◌, ◌≤◌, ◌<◌, length, get_or};
 
+use crate::shallow::Shallow;
 use dr_levels::Levels;
 use dr_memory::NoMemory;
 use dr_nested::{Rep, Step};
 use std::alloc::Global;
+
+/// A leaf with few repeated fields has at most so many.
+const SHALLOW: usize = 3;
 
 /// What is found of levels that follow a triplet: whether each may, and how many begin a row.
 #[derive(Clone, Copy)]
@@ -25,12 +29,12 @@ pub(crate) struct Floors {
 }
 
 impl Floors {
-    ghost use Rattle.std.specs.Prelude.{List, map, None, IfOk};
+    ghost use Rattle.std.specs.Prelude.{List, map, None, IfOk, IfSome, IfNone};
     ghost use Rattle.dr_meaning.specs.Column.{triplet};
     ghost use Rattle.dr_meaning.specs.Path.{Step as MeantStep, max_repetition, max_definition};
     ghost use Rattle.dr_meaning.specs.OneColumn.{starts, all_follow};
     ghost use Rattle.dr_nested.specs.PathView.{step_view};
-    ghost use Rattle.dr_file.specs.Floors.{AreFloorsOf, AreLeastOf, least_of, bare};
+    ghost use Rattle.dr_file.specs.Floors.{AreFloorsOf, AreLeastOf, AreShallowOf, least_of, bare};
 
     /// Those of a path of at most 32 steps.
     ///
@@ -90,9 +94,47 @@ impl Floors {
         least[usize::from(repetition)]
     }
 
+    /// The one of a repeated field, by its place among them; of a later place the greatest definition level.
+    fn floor_at(&self, index: usize) -> u8
+        ensures { result ≡ get_or (self.now).levels.items index (self.now).greatest }
+    {
+        match self.levels.get(index) {
+            Some(level) => *level,
+            None => self.greatest,
+        }
+    }
+
+    /// Those of a leaf that has few repeated fields; none where it has more.
+    fn shallow(&self) -> Option<Shallow>
+        ensures some { IfSome result (λ s. (p : List MeantStep) → AreFloorsOf p self.now → AreShallowOf p s) }
+        ensures none { IfNone result (3 < length (self.now).levels.items) }
+    {
+        if self.levels.len() > SHALLOW {
+            return None;
+        }
+        Some(Shallow {
+            first: self.floor_at(0),
+            second: self.floor_at(1),
+            third: self.floor_at(2),
+            others: self.greatest,
+        })
+    }
+
     /// Whether each of these levels may follow the one before it, the first a triplet of this definition level, and how
     /// many begin a row. All are looked at.
     pub(crate) fn follow(&self, before: u8, levels: &[Levels]) -> Following
+        ensures fits { (p : List MeantStep) → AreFloorsOf p self.now → result.fits
+            ≡ all_follow p (triplet 0 before None) (map bare levels.now) }
+        ensures begun { result.begun ≡ starts (map bare levels.now) }
+    {
+        match self.shallow() {
+            Some(shallow) => shallow.follow(before, levels),
+            None => self.follow_by_table(before, levels),
+        }
+    }
+
+    /// The same, of any leaf.
+    fn follow_by_table(&self, before: u8, levels: &[Levels]) -> Following
         ensures fits { (p : List MeantStep) → AreFloorsOf p self.now → result.fits
             ≡ all_follow p (triplet 0 before None) (map bare levels.now) }
         ensures begun { result.begun ≡ starts (map bare levels.now) }

@@ -1,6 +1,7 @@
 //! Files of Apache Parquet, opened for some leaves of a schema by their footers.
 #![tactic(auto)]
 
+mod apart;
 mod chunk_place;
 mod column;
 mod fault;
@@ -18,6 +19,7 @@ mod opening;
 mod places;
 mod row_order;
 mod schema;
+mod shallow;
 mod start;
 mod stream;
 mod telling;

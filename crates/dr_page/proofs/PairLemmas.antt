@@ -1,5 +1,5 @@
 -- Levels side by side.
-use Rattle.std.proofs.Common.{◌≡◌, ℕ, ◌+◌, ◌<◌, List, [], ◌∷◌, ◌++◌, length, map, take, set, get_or, refl, sym, ap, ap₂, ◌∙◌, arith, zero, suc, ◌≤◌, Bool, true, false}
+use Rattle.std.proofs.Common.{◌≡◌, ℕ, ◌+◌, ◌<◌, List, [], ◌∷◌, ◌++◌, length, map, take, drop, set, get_or, refl, sym, ap, ap₂, ◌∙◌, arith, zero, suc, ◌≤◌, Bool, true, false}
 use mir.Val.{bool_byte}
 use Rattle.std.specs.Prelude.{◌==◌, if◌then◌else◌}
 use Rattle.std.proofs.lemmas.List.{map_push, take_more_set, take_more, take_all}
@@ -35,6 +35,16 @@ count_more g (l ∷ ls) (suc i) h =
 
 pub all_counted : (g : ℕ) (ls : List ℕ) (i : ℕ) → length ls ≤ i → count_equal g (take i ls) ≡ count_equal g ls
 all_counted g ls i h = ap (count_equal g) (take_all i ls h)
+
+-- the first so many are counted, and the others
+pub count_parts : (g n : ℕ) (ls : List ℕ) → count_equal g (take n ls) + count_equal g (drop n ls) ≡ count_equal g ls
+count_parts g zero ls = omega arith
+count_parts g (suc n) [] = omega arith
+count_parts g (suc n) (l ∷ ls) = grown (l == g) (count_equal g (take n ls)) (count_equal g (drop n ls)) (count_equal g ls) (count_parts g n ls)
+  where
+    grown : (x : Bool) (a b c : ℕ) → a + b ≡ c → (if x then suc a else a) + b ≡ (if x then suc c else c)
+    grown true a b c e = omega (arith, e)
+    grown false a b c e = e
 
 pub one_if : (b : Bool) → bool_byte b ≡ (if b then 1 else 0)
 one_if true = refl

@@ -41,7 +41,6 @@ impl IndexCursor {
             → TakesIndices bytes.now given count self.new result }
         ensures count { OnOk result (length (indices_of self.new) ≡ count) }
     {
-        self.indices.clear();
         self.indices.resize(count, 0)?;
         if count == 0 {
             return Ok(());

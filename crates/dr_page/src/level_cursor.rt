@@ -50,10 +50,11 @@ impl LevelCursor {
         ensures count { OnOk result (length (piece_of self.new) ≡ count) }
         ensures greatest { (self.new).greatest ≡ (self.old).greatest }
     {
-        put_zeros(count, &mut self.levels)?;
         if self.greatest == 0 {
+            put_zeros(count, &mut self.levels)?;
             return Ok(());
         }
+        self.levels.resize(count, 0)?;
         self.runs.next(part, &mut self.levels)?;
         if none_above(self.greatest, &self.levels) {
             Ok(())

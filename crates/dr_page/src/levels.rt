@@ -1,22 +1,40 @@
 //! Levels side by side.
 
-ghost use Rattle.std.specs.Prelude.{◌≡◌, length, OnOk};
+ghost use Rattle.std.specs.Prelude.{◌≡◌, ◌≤◌, length, OnOk};
 ghost use Rattle.dr_formats.specs.Page.{count_equal};
 ghost use Rattle.dr_page.specs.Parts.{PairsOf};
 
 use dr_levels::Levels;
 use dr_memory::NoMemory;
 
-/// How many levels are this one. All are looked at, many at once.
-#[inline(always)]
+/// As many levels are counted in one byte.
+const PIECE: usize = 255;
+
+/// How many of a few levels are this one. All are looked at, many at once.
+fn count_piece(level: u8, levels: &[u8]) -> u8
+    requires { length levels.now ≤ 255 }
+    ensures count { result ≡ count_equal level levels.now }
+    ensures within { result ≤ length levels.now }
+{
+    let mut count = 0u8;
+    'levels: for index in 0..levels.len() {
+        count += u8::from(levels[index] == level);
+    }
+    count
+}
+
+/// How many levels are this one.
 pub(crate) fn count_equal(level: u8, levels: &[u8]) -> usize
     ensures { result ≡ count_equal level levels.now }
 {
     let mut count = 0;
-    'levels: for index in 0..levels.len() {
-        count += usize::from(levels[index] == level);
+    let mut rest = levels;
+    'pieces: while rest.len() > PIECE {
+        let (piece, others) = rest.split_at(PIECE);
+        count += usize::from(count_piece(level, piece));
+        rest = others;
     }
-    count
+    count + usize::from(count_piece(level, rest))
 }
 
 /// Puts pairs of levels into the place of others.
@@ -32,7 +50,6 @@ pub(crate) fn pair_levels(
         repetition: 0,
         definition: 0,
     };
-    out.clear();
     out.resize(repetitions.len(), none)?;
     fill_pairs(repetitions, definitions, out);
     Ok(())

@@ -22,7 +22,6 @@ pub(crate) fn read_places(
         start: 0,
         length: 0,
     };
-    out.clear();
     out.resize(texts.len(), none)?;
     if fill_places(texts, out) {
         Ok(())

@@ -1,21 +1,16 @@
-use Rattle.std.proofs.Common.{◌≡◌, ◌<◌, ◌∙◌, ℕ, length, get_or, ap, arith, refl}
-use Rattle.std.specs.Prelude.{◌==◌, if◌then◌else◌}
-use Rattle.std.proofs.lemmas.List.{length-map}
+use Rattle.std.proofs.Common.{◌≡◌, ◌∙◌, List, ap, arith, take, drop}
 use Rattle.dr_levels.specs.declared.triplet.Levels.{Levels}
-use Rattle.dr_agreement.specs.Cuts.{repetitions}
-use Rattle.dr_agreement.proofs.CutLemmas.{repetition_at, one_if, at_most_one}
-use Rattle.dr_agreement.proofs.CutLemmas.{starts_more}
+use Rattle.dr_agreement.specs.Cuts.{repetitions, starts}
+use Rattle.dr_agreement.proofs.CutLemmas.{begun_parts}
 use Rattle.dr_agreement.proofs.cuts.count_begun.Goals as goal
 
-pub levels-preserved : goal.levels-preserved
-levels-preserved c =
-    let d : Levels = record { repetition = 0; definition = 0 } in
-    let rs = repetitions c.args.levels.now in
-    let i = c.levels.at in
-    let e : c.from-begun.result ≡ (if get_or rs i 0 == 0 then 1 else 0) =
-    c.from-begun.ensures ∙ one_if ((get_or c.args.levels.now i d).repetition == 0) ∙ ap (λ (r : ℕ). if r == 0 then 1 else 0) (repetition_at c.args.levels.now i d refl) in
-    let h : i < length rs = omega (arith, c.levels-test.true, length-map c.args.levels.now (λ (l : Levels). l.repetition)) in
+pub pieces-preserved : goal.pieces-preserved
+pieces-preserved c =
+    let e = c.split_at.ensures in
+    let n = c.count_piece-begun.ensures in
+    let f : c.count_piece-begun.result ≡ starts (repetitions (take 224 c.pieces.rest.now)) = n.count ∙ ap (λ (ls : List Levels). starts (repetitions ls)) e.front in
+    let h : starts (repetitions c.split_at.result.1.now) ≡ starts (repetitions (drop 224 c.pieces.rest.now)) = ap (λ (ls : List Levels). starts (repetitions ls)) e.back in
     record {
-      counted = omega (arith, e, c.levels.invariant.counted, starts_more rs i h);
-      few = omega (arith, e, c.levels.invariant.few, at_most_one (get_or rs i 0 == 0));
+      counted = omega (arith, f, h, begun_parts 224 c.pieces.rest.now, c.pieces.invariant.counted);
+      few = omega (arith, n.within, e.front_len, e.back_len, c.pieces-test.true, c.pieces.invariant.few);
     }

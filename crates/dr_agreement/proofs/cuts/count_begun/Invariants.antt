@@ -1,8 +1,10 @@
-use Rattle.std.proofs.Common.{◌≡◌, ◌≤◌, take}
-use Rattle.dr_agreement.specs.Cuts.{repetitions}
-use Rattle.dr_agreement.specs.Cuts.{starts}
+use Rattle.std.proofs.Common.{◌≡◌, ◌≤◌, ◌+◌, length}
+use Rattle.dr_agreement.specs.Cuts.{repetitions, starts}
 use Rattle.dr_agreement.proofs.cuts.count_begun.Given as goal
 
--- those before this one are counted
-abbrev pub invariant-levels : goal.invariant-levels
-invariant-levels l = record { counted : l.begun ≡ starts (take l.at (repetitions l.levels)); few : l.begun ≤ l.at }
+-- what is counted, and what is left
+abbrev pub invariant-pieces : goal.invariant-pieces
+invariant-pieces l = record { counted : l.begun + starts (repetitions l.rest) ≡ starts (repetitions l.levels); few : l.begun + length l.rest ≤ length l.levels }
+
+abbrev pub decreases-pieces : goal.decreases-pieces
+decreases-pieces l = length l.rest

@@ -1,32 +1,24 @@
-use Rattle.std.proofs.Common.{◌≡◌, ◌<◌, ◌∙◌, ℕ, length, get_or, ap, arith, refl}
-use Rattle.std.specs.Prelude.{◌==◌, if◌then◌else◌}
-use Rattle.std.proofs.lemmas.List.{length-map}
+use Rattle.std.proofs.Common.{◌≡◌, ◌≤◌, ◌+◌, ◌-◌, ◌∙◌, ℕ, List, ap, arith, length, subst, take, drop}
 use Rattle.dr_levels.specs.declared.triplet.Levels.{Levels}
-use Rattle.dr_agreement.specs.Cuts.{repetitions}
-use Rattle.dr_agreement.proofs.CutLemmas.{repetition_at, one_if, at_most_one}
-use Rattle.dr_agreement.proofs.CutLemmas.{starts_more, cut_here}
+use Rattle.dr_agreement.specs.Cuts.{repetitions, starts, IsCut}
+use Rattle.dr_agreement.proofs.CutLemmas.{begun_parts, cut_parts}
 use Rattle.dr_agreement.proofs.cuts.end_of.Goals as goal
 
-pub returns-then-begun-records : goal.returns-then-begun-records
-returns-then-begun-records c =
-    let d : Levels = record { repetition = 0; definition = 0 } in
-    let rs = repetitions c.args.levels.now in
-    let i = c.levels.at in
-    let e : c.from-begun.result ≡ (if get_or rs i 0 == 0 then 1 else 0) =
-    c.from-begun.ensures ∙ one_if ((get_or c.args.levels.now i d).repetition == 0) ∙ ap (λ (r : ℕ). if r == 0 then 1 else 0) (repetition_at c.args.levels.now i d refl) in
-    let h : i < length rs = omega (arith, c.levels-test.true, length-map c.args.levels.now (λ (l : Levels). l.repetition)) in
-    cut_here rs i c.levels.begun c.from-begun.result c.args.records h c.levels.invariant.counted c.levels.invariant.not_past e c.if-begun-records.true
-
-pub levels-preserved : goal.levels-preserved
-levels-preserved c =
-    let d : Levels = record { repetition = 0; definition = 0 } in
-    let rs = repetitions c.args.levels.now in
-    let i = c.levels.at in
-    let e : c.from-begun.result ≡ (if get_or rs i 0 == 0 then 1 else 0) =
-    c.from-begun.ensures ∙ one_if ((get_or c.args.levels.now i d).repetition == 0) ∙ ap (λ (r : ℕ). if r == 0 then 1 else 0) (repetition_at c.args.levels.now i d refl) in
-    let h : i < length rs = omega (arith, c.levels-test.true, length-map c.args.levels.now (λ (l : Levels). l.repetition)) in
+pub pieces-preserved : goal.pieces-preserved
+pieces-preserved c =
+    let ls = c.pieces.rest.now in
+    let m = c.min.result in
+    let begun = c.count_piece-begun.result in
+    let e = c.split_at.ensures in
+    let f : begun ≡ starts (repetitions (take m ls)) = c.count_piece-begun.ensures.count ∙ ap (λ (xs : List Levels). starts (repetitions xs)) e.front in
+    let h : starts (repetitions c.split_at.result.1.now) ≡ starts (repetitions (drop m ls)) = ap (λ (xs : List Levels). starts (repetitions xs)) e.back in
+    let w : m ≤ length ls = omega (arith, c.min.ensures) in
     record {
-      counted = omega (arith, e, c.levels.invariant.counted, starts_more rs i h);
-      few = omega (arith, e, c.levels.invariant.few, at_most_one (get_or rs i 0 == 0));
-      not_past = omega (arith, c.if-begun-records.false);
+      within = omega (arith, e.back_len, c.pieces.invariant.within);
+      few = omega (arith, f, h, begun_parts m ls, c.pieces.invariant.few, c.if-begun-left.false);
+      cut = λ at k x y.
+          let behind = subst (λ (xs : List Levels). IsCut (repetitions xs) at (c.pieces.left - begun)) e.back x in
+          let here = cut_parts ls m at c.pieces.left begun w f (omega (arith, c.if-begun-left.false)) behind in
+          let same : k - m + (m + at) ≡ k + at = omega (arith, y, e.back_len, w, c.pieces.invariant.within) in
+          subst (λ (q : ℕ). IsCut (repetitions c.args.levels.now) q c.args.records) same (c.pieces.invariant.cut (m + at) (k - m) here (omega (arith, y, e.back_len, w, c.pieces.invariant.within)));
     }

@@ -1,7 +1,7 @@
 use Rattle.std.proofs.Common.{◌≡◌, ◌+◌, ◌∙◌, ◌++◌, List, ℕ, true, false, Some, length, take, drop, refl, sym, ap, subst, arith}
 use Rattle.std.specs.Prelude.{nat_le}
 use Rattle.std.specs.List.{list_all}
-use Rattle.std.proofs.lemmas.List.{length-append, length-replicate, take_at}
+use Rattle.std.proofs.lemmas.List.{length-append, take_at}
 use Rattle.dr_formats.specs.Hybrid.{hybrid}
 use Rattle.dr_formats.specs.Page.{level_width, levels}
 use Rattle.dr_page.specs.RunReading.{HasRead}
@@ -22,9 +22,9 @@ pub returns-in_err-next-clause-next : goal.returns-in_err-next-clause-next
 returns-in_err-next-clause-next c = λ given h.
     let g = c.args.self.now.greatest in
     let part = c.args.part.now in
-    let v = c.put_zeros.new.levels in
+    let v = c.resize.new.self in
     let p = err_from_is_err_and c.from_residual-in_err-next.result c.from_residual-in_err-next.ensures.1 in
-    let m : length c.deref_mut.result.now ≡ c.args.count = omega (arith, ap length c.deref_mut.ensures.value, v.ok.0, ap length c.in_ok-put_zeros.ensures, length-replicate {A = ℕ} c.args.count 0) in
+    let m : length c.deref_mut.result.now ≡ c.args.count = omega (arith, ap length c.deref_mut.ensures.value, v.ok.0, c.in_ok-resize.ensures.len) in
     rw (p.1, p.2) (no_runs g (length given + c.args.count) (level_width g) part PageFault.BadData c.if-self-eq0.false refl
     (not_read (level_width g) (length c.deref_mut.result.now) c.args.count part given c.args.self.now.runs (h.runs c.if-self-eq0.false) m c.in_err-next.ensures.short))
 
@@ -32,7 +32,7 @@ pub returns-then-none_above-clause-next : goal.returns-then-none_above-clause-ne
 returns-then-none_above-clause-next c =
     let g = c.args.self.now.greatest in
     let part = c.args.part.now in
-    let v = c.put_zeros.new.levels in
+    let v = c.resize.new.self in
     let ws = c.next.new.out in
     let l : length ws ≡ v.len = omega (arith, ap length c.deref_mut.ensures.value, c.next.auto.out, v.ok.0) in
     let same : take v.len (ws ++ drop (length ws) v.items) ≡ ws = take_at ws (drop (length ws) v.items) v.len l in
@@ -49,10 +49,10 @@ pub returns-else-none_above-clause-next : goal.returns-else-none_above-clause-ne
 returns-else-none_above-clause-next c =
     let g = c.args.self.now.greatest in
     let part = c.args.part.now in
-    let v = c.put_zeros.new.levels in
+    let v = c.resize.new.self in
     let ws = c.next.new.out in
     let l : length ws ≡ v.len = omega (arith, ap length c.deref_mut.ensures.value, c.next.auto.out, v.ok.0) in
-    let m : length ws ≡ c.args.count = omega (arith, l, v.ok.0, ap length c.in_ok-put_zeros.ensures, length-replicate {A = ℕ} c.args.count 0) in
+    let m : length ws ≡ c.args.count = omega (arith, l, v.ok.0, c.in_ok-resize.ensures.len) in
     let same : take v.len (ws ++ drop (length ws) v.items) ≡ ws = take_at ws (drop (length ws) v.items) v.len l in
     let all : list_all (λ k. nat_le k g) ws ≡ false = ap (list_all (λ k. nat_le k g)) (sym (c.deref.ensures.value ∙ same)) ∙ sym c.if-none_above.ensures in
     λ given h.

@@ -2,7 +2,7 @@ use Rattle.std.proofs.Common.{◌≡◌, ◌&&◌, map, drop}
 use Rattle.dr_meaning.specs.Path.{Leaf}
 use Rattle.dr_levels.specs.Views.{levels_pair}
 use Rattle.dr_agreement.specs.Alone.{each_may_stand, IsTestOf}
-use Rattle.dr_agreement.proofs.column_of_leaf.LeafTest.each_may_stand.Given as goal
+use Rattle.dr_agreement.proofs.column_of_leaf.LeafTest.each_by_table.Given as goal
 
 -- those before this one may, and the others are left
 abbrev pub invariant-levels : goal.invariant-levels

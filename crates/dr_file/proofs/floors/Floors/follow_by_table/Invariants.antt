@@ -3,7 +3,7 @@ use Rattle.dr_meaning.specs.Path.{Step}
 use Rattle.dr_meaning.specs.Column.{triplet}
 use Rattle.dr_meaning.specs.OneColumn.{starts, all_follow}
 use Rattle.dr_file.specs.Floors.{AreFloorsOf, bare}
-use Rattle.dr_file.proofs.floors.Floors.follow.Given as goal
+use Rattle.dr_file.proofs.floors.Floors.follow_by_table.Given as goal
 
 -- those before this one follow and are counted, and the others are left
 abbrev pub invariant-levels : goal.invariant-levels
