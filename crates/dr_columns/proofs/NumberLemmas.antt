@@ -18,6 +18,7 @@ use Rattle.dr_group.specs.declared.group.Group as held
 use Rattle.dr_group.specs.Maps.{groups_view, gatherings_view, tuples_view}
 use Rattle.dr_group.specs.Distinct.{tuples_of}
 use Rattle.dr_group.specs.declared.group_map.GroupMap.{GroupMap}
+use Rattle.dr_group.proofs.NumberLemmas.{numbered_found, items_put, nothing_put}
 use Rattle.dr_rows_beside.specs.Rows.{Row, NextRow}
 use Rattle.dr_columns.specs.RowPuts.{keys_in, puts_in}
 use Rattle.dr_columns.specs.Numbers.{tuples_at, are_among, Stay, put_at, row_puts, value_puts, LeavesToPut, HasPut}
@@ -139,6 +140,12 @@ pub value_is_put : (r : Result (Unit {0}) NoMemory) (old new : GroupMap) (n i : 
     → IfOk r (λ done. HasPut old (put_at (tuples_view old) n i v ∷ []) new)
 value_is_put (Ok done) old new n i v l h = λ items e. h items (slice_index_or (tuples_view old) n []) e (tuple_there (tuples_view old) n l)
 value_is_put (Err e) old new n i v l h = tt
+
+-- the key tuple of a group that is there, with which nothing is taken, leaves the groups as they are
+pub put_again : (m : GroupMap) (n : ℕ) (t : List (Option Value)) → slice_get (tuples_view m) n ≡ Some t → HasPut m (put_of t None ∷ []) m
+put_again m n t f = λ items e.
+    let gs : List Group = map group_view m.groups.items in
+    items_put items m.gatherings.items (put_of t None) (groups_view m) (groups_view m) e (nothing_put m.gatherings.items gs n t m.distinct (numbered_found gs n t f))
 
 -- a put once more
 repeated_behind : (p : Put) (k : ℕ) → replicate k p ++ p ∷ [] ≡ p ∷ replicate k p

@@ -105,10 +105,10 @@ impl<'r> LeafRows<'r> {
         let Some(repetition) = self.own.peek() else {
             return None;
         };
-        let own = self.own.next();
         match &mut self.beside {
-            None => Some(own),
+            None => Some(self.own.next()),
             Some(other) => {
+                self.own.next();
                 self.value = go_on(other, repetition, self.value);
                 Some(self.value)
             }

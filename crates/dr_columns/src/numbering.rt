@@ -127,8 +127,8 @@ pub(crate) fn number_rows<'r>(
         ≡ map (keys_in keys.now) (fired_rows (map triplets_view columns.now) (fired_view fired.now))) }
     ensures among { IfOk result (λ done. are_among (length (tuples_view groups.new)) (out.new).items ≡ true) }
 {
-    if let Some(mut rows) = key_rows(keys, &fired.source, columns) {
-        return put_leaf_numbers(alloc, &mut rows, groups, out);
+    if let Some(rows) = key_rows(keys, &fired.source, columns) {
+        return put_leaf_numbers(alloc, rows, groups, out);
     }
     let mut rows = Rows::new(alloc, &fired.source, columns)?;
     put_numbers(alloc, keys, &mut rows, groups, out)

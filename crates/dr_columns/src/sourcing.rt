@@ -63,8 +63,8 @@ fn take_one<'r>(
     match taking.aggregate {
         Aggregate::Rows => take_rows(alloc, taking.number, numbers, groups),
         Aggregate::Of(_, expression) => {
-            if let Some(mut rows) = own_rows(expression, source, columns) {
-                return take_leaf(alloc, taking.number, &mut rows, numbers, groups);
+            if let Some(rows) = own_rows(expression, source, columns) {
+                return take_leaf(alloc, taking.number, rows, numbers, groups);
             }
             let mut rows = Rows::new(alloc, source, columns)?;
             take_values(alloc, taking.number, expression, &mut rows, numbers, groups)

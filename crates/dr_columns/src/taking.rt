@@ -2,6 +2,7 @@
 
 ghost use Rattle.std.specs.Prelude.{◌≡◌, ◌<◌, [], ◌∷◌, length, map, option_map, replicate, true, Some, IfOk, IfSome};
 ghost use Rattle.std.specs.List.{slice_get};
+ghost use Rattle.dr_meaning.specs.Record.{int_value};
 ghost use Rattle.dr_meaning.specs.BoundExpression.{number_type, text_type};
 ghost use Rattle.dr_levels.specs.Views.{lent_value};
 ghost use Rattle.dr_group.specs.Groups.{put_of};
@@ -95,6 +96,48 @@ pub(crate) fn put_value(
     ensures gatherings { gatherings_view groups.new ≡ gatherings_view groups.old }
     ensures tuples { tuples_view groups.new ≡ tuples_view groups.old }
 {
+    match value {
+        None => put_integer(alloc, aggregate, None, group, groups),
+        Some(ValueRef::Int(integer)) => put_integer(alloc, aggregate, Some(integer), group, groups),
+        Some(ValueRef::Bool(_) | ValueRef::Text(_)) => {
+            put_other(alloc, aggregate, value, group, groups)
+        }
+    }
+}
+
+/// Puts an integer, or NULL, for an aggregate into the group of a number.
+#[inline(always)]
+fn put_integer(
+    alloc: Global,
+    aggregate: u32,
+    integer: Option<i64>,
+    group: u32,
+    groups: &mut GroupMap,
+) -> Result<(), NoMemory>
+    requires { group < length (tuples_view groups.old) }
+    ensures put { IfOk result (λ done. HasPut groups.old
+        (put_at (tuples_view groups.old) group aggregate (option_map int_value integer) ∷ []) groups.new) }
+    ensures gatherings { gatherings_view groups.new ≡ gatherings_view groups.old }
+    ensures tuples { tuples_view groups.new ≡ tuples_view groups.old }
+{
+    groups.take_integer(alloc, group as usize, aggregate, integer)
+}
+
+/// Puts a value of any kind for an aggregate into the group of a number.
+#[inline(never)]
+fn put_other(
+    alloc: Global,
+    aggregate: u32,
+    value: Option<ValueRef<'_>>,
+    group: u32,
+    groups: &mut GroupMap,
+) -> Result<(), NoMemory>
+    requires { group < length (tuples_view groups.old) }
+    ensures put { IfOk result (λ done. HasPut groups.old
+        (put_at (tuples_view groups.old) group aggregate (option_map lent_value value.entry) ∷ []) groups.new) }
+    ensures gatherings { gatherings_view groups.new ≡ gatherings_view groups.old }
+    ensures tuples { tuples_view groups.new ≡ tuples_view groups.old }
+{
     groups.take_in(alloc, group as usize, Some(Taken { aggregate, value }))
 }
 
@@ -160,6 +203,7 @@ pub(crate) fn put_taken<'a>(
 /// Takes a row for an aggregate into each of the groups of some numbers.
 ///
 /// Errors: want of room for a count.
+#[inline(never)]
 pub(crate) fn take_rows(
     alloc: Global,
     aggregate: u32,

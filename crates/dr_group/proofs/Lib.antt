@@ -1,5 +1,7 @@
 -- the order of key tuples, cell by cell
 pub mod OrderLemmas
+-- whether lent cells are the same as held ones
+pub mod SamenessLemmas
 -- what aggregates gather
 pub mod GatheringLemmas
 -- groups by their numbers

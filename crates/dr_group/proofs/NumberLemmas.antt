@@ -1,6 +1,6 @@
 -- Groups by their numbers.
-use Rattle.std.proofs.lemmas.List.{map-append}
-use Rattle.std.proofs.Common.{◌≡◌, ℕ, zero, suc, List, [], ◌∷◌, ◌++◌, map, length, get_or, Option, Some, Ok, Err, Result, refl, ap, ◌∙◌, arith, IfOk}
+use Rattle.std.proofs.lemmas.List.{map-append, set-get_or}
+use Rattle.std.proofs.Common.{◌≡◌, ℕ, zero, suc, List, [], ◌∷◌, ◌++◌, map, length, get_or, Option, Some, None, Ok, Err, Result, refl, sym, ap, ◌∙◌, arith, IfOk}
 use Rattle.std.specs.List.{slice_get}
 use Rattle.std.proofs.Math.Seq.{map-set_same}
 use Rattle.dr_memory.specs.declared.NoMemory.{NoMemory}
@@ -9,11 +9,12 @@ use Rattle.dr_partials.specs.Partials.{Group}
 use Rattle.dr_meaning.specs.Query.{GroupItem}
 use Rattle.dr_partials.specs.Putting.{Taken, Put, put_group}
 use Rattle.dr_group.specs.Gathering.{Becomes, taken_by, put_by, gatherings_of, gathering_view}
-use Rattle.dr_group.specs.Groups.{no_group, with_accumulators, taken_at}
-use Rattle.dr_group.specs.Distinct.{IsFound}
-use Rattle.dr_group.specs.Distinct.{tuples_of}
+use Rattle.dr_group.specs.Groups.{no_group, with_accumulators, taken_at, put_of}
+use Rattle.dr_group.specs.Distinct.{AreDistinct, IsFound, tuples_of}
+use Rattle.dr_group.specs.Maps.{in_order}
 use Rattle.dr_group.specs.declared.gathering.Gathering.{Gathering}
 use Rattle.dr_group.proofs.HeldLemmas.{put_items}
+use Rattle.dr_group.proofs.PutLemmas.{put_old}
 
 pub numbered_found : (gs : List Group) (k : ℕ) (t : List (Option Value)) → slice_get (tuples_of gs) k ≡ Some t → IsFound t gs (Some k)
 numbered_found [] k t e = absurd (cc)
@@ -54,3 +55,9 @@ pub made_put : (r : Result ℕ NoMemory) (ks : List Gathering) (p : Put) (gs aft
     → IfOk r (λ (n : ℕ). (items : List GroupItem) → gatherings_of items ≡ map gathering_view ks → after ≡ put_group items p gs)
 made_put (Ok n) ks p gs after s = λ (items : List GroupItem) (h : gatherings_of items ≡ map gathering_view ks). items_put items ks p gs after h s
 made_put (Err x) ks p gs after s = tt
+
+-- ---- nothing taken
+
+-- the key tuple of a group that is there, with which nothing is taken, leaves the groups as they are
+pub nothing_put : (ks : List Gathering) (gs : List Group) (k : ℕ) (t : List (Option Value)) → AreDistinct gs → IsFound t gs (Some k) → in_order gs ≡ put_by ks (put_of t None) (in_order gs)
+nothing_put ks gs k t d f = sym (ap in_order (set-get_or gs k no_group)) ∙ put_old ks (put_of t None) gs k d f.0 f.1

@@ -40,3 +40,8 @@ PutsInto items one m m' result = Becomes (groups_view m) (groups_view m') (put_g
 abbrev pub PutsAt : ℕ → Option Taken → GroupMap → GroupMap → Result (Unit {0}) NoMemory → Type 0
 PutsAt number t m m' result = (items : List GroupItem) (tuple : List (Option Value)) → gatherings_of items ≡ gatherings_view m
     → slice_get (tuples_view m) number ≡ Some tuple → PutsInto items (put_of tuple (option_map taken_view t)) m m' result
+
+-- a cell for the ith aggregate is put with the key tuple of the group of a number, whatever items the groups are for
+abbrev pub PutsCellAt : ℕ → ℕ → Option Value → GroupMap → GroupMap → Result (Unit {0}) NoMemory → Type 0
+PutsCellAt number i v m m' result = (items : List GroupItem) (tuple : List (Option Value)) → gatherings_of items ≡ gatherings_view m
+    → slice_get (tuples_view m) number ≡ Some tuple → PutsInto items (put_of tuple (Some (record { aggregate = i; value = v }))) m m' result

@@ -13,11 +13,10 @@ use crate::group_map::GroupMap;
 use crate::hashes::{held_hash, lent_hash};
 use crate::index::Index;
 use crate::ordered_index::OrderedIndex;
-use crate::orders::tuple_order;
+use crate::sameness::is_same_tuple;
 use dr_levels::ValueRef;
 use dr_memory::NoMemory;
 use std::alloc::Global;
-use std::cmp::Ordering;
 
 /// Whether a group has a key tuple.
 #[inline(always)]
@@ -25,10 +24,7 @@ fn has_key(group: &Group, key: &[Option<ValueRef<'_>>]) -> bool
     ensures yes { result ≡ true → (group_view group.now).keys ≡ map lent_cell key.now }
     ensures no { result ≡ false → (group_view group.now).keys ≡ map lent_cell key.now → ⊥ }
 {
-    match tuple_order(key, &group.keys) {
-        Ordering::Equal => true,
-        Ordering::Less | Ordering::Greater => false,
-    }
+    is_same_tuple(key, &group.keys)
 }
 
 /// An index of groups by the hashes of their key tuples; none where a bucket has more of them than a chain may have.

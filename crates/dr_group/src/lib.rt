@@ -11,6 +11,7 @@ mod group_map;
 mod hashes;
 mod hints;
 mod index;
+mod integers;
 mod joining;
 mod key;
 pub mod laws;
@@ -23,6 +24,7 @@ mod ordering;
 mod orders;
 mod partial;
 mod putting;
+mod sameness;
 mod taking;
 mod turn;
 

@@ -75,7 +75,6 @@ impl GroupMap {
     {
         let hinted = self.hints.find(key);
         if self.is_at(hinted, key) {
-            self.put_at(alloc, hinted, key, None)?;
             return Ok(hinted);
         }
         let number = self.find_or_make(alloc, key)?;
@@ -100,7 +99,6 @@ impl GroupMap {
         match self.seek(alloc, key)? {
             Some(number) => {
                 self.hint = number;
-                self.put_at(alloc, number, key, None)?;
                 Ok(number)
             }
             None => {

@@ -1,4 +1,6 @@
-use Rattle.std.proofs.Common.{◌≡◌, ◌++◌, length, true}
+use Rattle.std.proofs.Common.{◌≡◌, ◌++◌, ◌∷◌, [], length, true, Some, None}
+use Rattle.std.specs.Prelude.{IfSome}
+use Rattle.std.specs.List.{slice_get}
 use Rattle.dr_group.specs.Maps.{gatherings_view, tuples_view}
 use Rattle.dr_columns.specs.LeafRows.{cell_tuples, cell_groups}
 use Rattle.dr_columns.specs.LeafRowsView.{leaf_left}
@@ -12,6 +14,7 @@ invariant-rows l = record {
   gatherings : gatherings_view l.groups ≡ gatherings_view l.initial.groups;
   numbers : tuples_at (tuples_view l.groups) l.out.items ++ cell_tuples (leaf_left l.rows) ≡ cell_tuples (leaf_left l.initial.rows);
   among : are_among (length (tuples_view l.groups)) l.out.items ≡ true;
+  null : IfSome l.of_null (λ n. slice_get (tuples_view l.groups) n ≡ Some (None ∷ []));
 }
 
 abbrev pub decreases-rows : goal.decreases-rows

@@ -30,7 +30,7 @@ numbers-preserved c =
     let after = leaf_left c.next.new.self in
     let row : NextValue before after (Some c.in-Some.value) = c.in-Some.ensures in
     let v : Option Value = option_map lent_value c.in-Some.value in
-    let all = value_puts i (tuples_at T ns) (leaf_left c.args.rows.now) in
+    let all = value_puts i (tuples_at T ns) (leaf_left c.args.rows) in
     record {
       put = one_put old now next all (value_puts i (tuples_at T (drop (k + 1) ns)) after) (put_at T n i v) c.numbers.invariant.gatherings
           (subst (LeavesToPut old all now) (next_value_put T i ns k 0 v after c.numbers-test.true)
@@ -45,7 +45,7 @@ returns-in_default-clause-put c =
     let old = c.args.groups.now in
     let T = tuples_view old in
     let i = c.args.aggregate in
-    let all = value_puts i (tuples_at T c.args.numbers.now) (leaf_left c.args.rows.now) in
+    let all = value_puts i (tuples_at T c.args.numbers.now) (leaf_left c.args.rows) in
     subst (LeavesToPut old all c.numbers.groups)
     (no_more_puts i (tuples_at T (drop c.numbers.number-index c.args.numbers.now)) (leaf_left c.numbers.rows) (leaf_left c.next.new.self) c.next.result c.next.ensures c.in_default.not-Some)
     c.numbers.invariant.put

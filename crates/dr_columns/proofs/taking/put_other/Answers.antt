@@ -2,7 +2,7 @@ use Rattle.std.proofs.Common.{arith}
 use Rattle.std.specs.Prelude.{option_map}
 use Rattle.dr_levels.specs.Views.{lent_value}
 use Rattle.dr_columns.proofs.NumberLemmas.{as_many_tuples, value_is_put}
-use Rattle.dr_columns.proofs.taking.put_value.Goals as goal
+use Rattle.dr_columns.proofs.taking.put_other.Goals as goal
 
 pub take_in-requires : goal.take_in-requires
 take_in-requires c = omega (arith, as_many_tuples c.args.groups.now.groups.items, c.requires)
