@@ -12,10 +12,10 @@ use Rattle.dr_group.specs.declared.group_map.GroupMap.{GroupMap}
 use Rattle.dr_rows_beside.specs.declared.source.Beside.{Beside}
 use Rattle.dr_rows_beside.specs.Rows.{Row, picked}
 use Rattle.dr_rows_beside.specs.RecordRows.{rows_of}
-use Rattle.dr_judging.specs.declared.judging.Test.{Test}
-use Rattle.dr_judging.specs.KeptBits.{bits_of, kept_bits}
-use Rattle.dr_judging.specs.declared.keeping.Keeping.{Keeping}
-use Rattle.dr_judging.specs.Bits.{set_bits}
+use Rattle.dr_rows_beside.specs.declared.judging.Test.{Test}
+use Rattle.dr_rows_beside.specs.KeptBits.{bits_of, kept_bits}
+use Rattle.dr_rows_beside.specs.declared.keeping.Keeping.{Keeping}
+use Rattle.dr_rows_beside.specs.Bits.{set_bits}
 use Rattle.dr_columns.specs.declared.firing.Fired.{Fired}
 use Rattle.dr_columns.specs.Numbers.{tuples_at, are_among, HasPut}
 use Rattle.dr_columns.specs.RowPuts.{keys_in}

@@ -37,14 +37,14 @@ use Rattle.dr_condition.proofs.PartedLemmas.{no_greatest}
 use Rattle.dr_condition.proofs.PlanCondition.{AreTests, plan_tests, plan_constant, plan_never}
 use Rattle.dr_condition.proofs.ReadRows.{same_paths, AreLeavesOf, rows_typed}
 use Rattle.dr_rows_beside.specs.Sources.{AreOnItsChain}
-use Rattle.dr_judging.specs.declared.keeping.Keeping.{Keeping}
-use Rattle.dr_judging.specs.Kept.{holds, all_hold, IsTestOf, AreTestsOf}
-use Rattle.dr_judging.specs.Keeps.{AreOnOneChain}
-use Rattle.dr_judging.specs.KeptRows.{left_of}
-use Rattle.dr_judging.specs.Makings.{onto_read, reading, IsKeepingOf}
-use Rattle.dr_judging.proofs.CommonLemmas.{reading_fits}
-use Rattle.dr_judging.proofs.KeepsLemmas.{keeping_holds}
-use Rattle.dr_judging.proofs.LastTestLemmas.{own_is_last}
+use Rattle.dr_rows_beside.specs.declared.keeping.Keeping.{Keeping}
+use Rattle.dr_rows_beside.specs.Kept.{holds, all_hold, IsTestOf, AreTestsOf}
+use Rattle.dr_rows_beside.specs.Keeps.{AreOnOneChain}
+use Rattle.dr_rows_beside.specs.KeptRows.{left_of}
+use Rattle.dr_rows_beside.specs.Makings.{onto_read, reading, IsKeepingOf}
+use Rattle.dr_rows_beside.proofs.CommonLemmas.{reading_fits}
+use Rattle.dr_rows_beside.proofs.KeepsLemmas.{keeping_holds}
+use Rattle.dr_rows_beside.proofs.LastTestLemmas.{own_is_last}
 use Rattle.dr_columns.specs.RowPuts.{paths_at}
 use Rattle.dr_columns.specs.ChunksTaken.{left_by}
 use Rattle.dr_columns.proofs.SourceReadLemmas.{AreInOrder, leaves_in_order, IsLastOf, last_of}

@@ -43,15 +43,15 @@ use Rattle.dr_rows_beside.specs.Slots.{EachSlot}
 use Rattle.dr_rows_beside.proofs.RecordRowLemmas.{rows_of_records}
 use Rattle.dr_rows_beside.proofs.SlotLemmas.{each_slot}
 use Rattle.dr_rows_beside.proofs.SourceLemmas.{got_at}
-use Rattle.dr_judging.specs.declared.judging.Test.{Test}
-use Rattle.dr_judging.specs.declared.keeping.Keeping.{Keeping}
-use Rattle.dr_judging.specs.Keepings.{CanJudge}
-use Rattle.dr_judging.specs.Kept.{all_hold, RowsAreTyped}
-use Rattle.dr_judging.specs.KeptBits.{commons, common_at, kept_bits}
-use Rattle.dr_judging.specs.KeptRows.{left_of, kept_rows_of}
-use Rattle.dr_judging.specs.Makings.{IsKeepingOf}
-use Rattle.dr_judging.proofs.JudgeableLemmas.{records_can_be_judged}
-use Rattle.dr_judging.proofs.KeptRowLemmas.{kept_rows_of_records, kept_records_are_counted}
+use Rattle.dr_rows_beside.specs.declared.judging.Test.{Test}
+use Rattle.dr_rows_beside.specs.declared.keeping.Keeping.{Keeping}
+use Rattle.dr_rows_beside.specs.Keepings.{CanJudge}
+use Rattle.dr_rows_beside.specs.Kept.{all_hold, RowsAreTyped}
+use Rattle.dr_rows_beside.specs.KeptBits.{commons, common_at, kept_bits}
+use Rattle.dr_rows_beside.specs.KeptRows.{left_of, kept_rows_of}
+use Rattle.dr_rows_beside.specs.Makings.{IsKeepingOf}
+use Rattle.dr_rows_beside.proofs.JudgeableLemmas.{records_can_be_judged}
+use Rattle.dr_rows_beside.proofs.KeptRowLemmas.{kept_rows_of_records, kept_records_are_counted}
 use Rattle.dr_columns.specs.declared.column_scan.ColumnScan.{ColumnScan}
 use Rattle.dr_columns.specs.Numbers.{HasPut}
 use Rattle.dr_columns.specs.RowPuts.{paths_at}

@@ -7,9 +7,9 @@ use Rattle.dr_beside.specs.Neighbours.{column_at}
 use Rattle.dr_rows_beside.specs.declared.source.Beside.{Beside}
 use Rattle.dr_rows_beside.specs.Rows.{Row, picked}
 use Rattle.dr_rows_beside.specs.RecordRows.{rows_of}
-use Rattle.dr_judging.specs.declared.keeping.Keeping.{Keeping}
-use Rattle.dr_judging.specs.Bits.{set_bits}
-use Rattle.dr_judging.specs.KeptBits.{bits_of, kept_bits, common_at}
+use Rattle.dr_rows_beside.specs.declared.keeping.Keeping.{Keeping}
+use Rattle.dr_rows_beside.specs.Bits.{set_bits}
+use Rattle.dr_rows_beside.specs.KeptBits.{bits_of, kept_bits, common_at}
 use Rattle.dr_columns.specs.Takings.{Fires, Take, fired_read_puts, CanFire}
 use Rattle.dr_columns.specs.ChunksTaken.{chunk_puts}
 

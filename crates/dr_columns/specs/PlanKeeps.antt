@@ -4,7 +4,7 @@ use Rattle.dr_plan.specs.Planned.{plan_leaves}
 use Rattle.dr_plan.specs.declared.plan.Plan.{Plan}
 use Rattle.dr_meaning.specs.Path.{paths_of_leaves}
 use Rattle.dr_condition.specs.Parted.{constants_hold}
-use Rattle.dr_judging.specs.Makings.{reading, IsKeepingOf}
+use Rattle.dr_rows_beside.specs.Makings.{reading, IsKeepingOf}
 use Rattle.dr_columns.specs.declared.keeps.Keeps.{Keeps}
 
 -- all where all tests are true without a leaf; nothing where one that reads none isn't true; else what those that read leaves keep

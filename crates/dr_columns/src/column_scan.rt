@@ -10,7 +10,7 @@ ghost use Rattle.dr_plan.specs.declared.plan.Plan.{Plan as MeantPlan};
 ghost use Rattle.dr_group.specs.Partials.{partial_view, IsPartialOf};
 ghost use Rattle.dr_beside.specs.Chunks.{HasColumns, NoneHas};
 ghost use Rattle.dr_group.specs.Maps.{gatherings_view};
-ghost use Rattle.dr_judging.specs.Keepings.{CanJudge};
+ghost use Rattle.dr_rows_beside.specs.Keepings.{CanJudge};
 ghost use Rattle.dr_columns.specs.KeptTakings.{kept_count, kept_chunk_puts, CanSift};
 ghost use Rattle.dr_columns.specs.Numbers.{HasPut};
 ghost use Rattle.dr_columns.specs.Takings.{fired_view, takings_view};
@@ -22,10 +22,10 @@ use crate::sourcing::take_sources;
 use crate::taking::{Taking, take_records};
 use dr_agreement::Agreement;
 use dr_group::{GroupMap, Partial};
-use dr_judging::Keeping;
 use dr_levels::Triplets;
 use dr_memory::NoMemory;
 use dr_plan::{Aggregate, Plan, Selection};
+use dr_rows_beside::Keeping;
 use std::alloc::Global;
 
 /// The groups of a plan, made of the columns of records, a chunk of whole records after another.

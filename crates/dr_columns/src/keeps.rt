@@ -6,9 +6,9 @@ ghost use Rattle.dr_condition.specs.Parted.{
   constants_hold as meant_constants_hold,
 };
 
-use dr_judging::Keeping;
 use dr_memory::NoMemory;
 use dr_plan::{Plan, Truth};
+use dr_rows_beside::Keeping;
 use dr_scalar::{last_leaf_of_tests, truth};
 use std::alloc::Global;
 use std::slice;

@@ -6,7 +6,7 @@ ghost use Rattle.dr_levels.specs.Views.{triplets_view};
 ghost use Rattle.dr_group.specs.Maps.{gatherings_view, tuples_view};
 ghost use Rattle.dr_beside.specs.Neighbours.{column_at};
 ghost use Rattle.dr_rows_beside.specs.Rows.{Row, picked};
-ghost use Rattle.dr_judging.specs.KeptBits.{HasJudged};
+ghost use Rattle.dr_rows_beside.specs.KeptBits.{HasJudged};
 ghost use Rattle.dr_columns.specs.RowPuts.{keys_in, groups_in};
 ghost use Rattle.dr_columns.specs.Numbers.{tuples_at, are_among, HasPut};
 ghost use Rattle.dr_columns.specs.Takings.{
@@ -24,11 +24,10 @@ use crate::firing::Fired;
 use crate::numbering::{put_numbers, short_number};
 use crate::taking::{Taking, take_rows, take_values};
 use dr_group::GroupMap;
-use dr_judging::{Keeping, count_set};
 use dr_levels::Triplets;
 use dr_memory::NoMemory;
 use dr_plan::Aggregate;
-use dr_rows_beside::Rows;
+use dr_rows_beside::{Keeping, Rows, count_set};
 use std::alloc::Global;
 
 /// Puts the number of the group without keys for each of so many rows. It is made if there are any.

@@ -61,7 +61,7 @@ fn push_text(text: &TextOf, out: &mut Vec<u32>) -> Result<(), NoMemory>
 ///
 /// Errors: want of memory alone.
 #[tactic(auto, using(crate::proofs::ReadingLemmas::truth_puts))]
-pub fn push_truth(truth: &Truth, out: &mut Vec<u32>) -> Result<(), NoMemory>
+pub(crate) fn push_truth(truth: &Truth, out: &mut Vec<u32>) -> Result<(), NoMemory>
     ensures { IfOk result (λ done. (out.new).items ≡ (out.old).items ++ truth_leaves truth.now) }
 {
     match truth {

@@ -77,7 +77,8 @@ impl<'r, 'b> Rows<'r, 'b> {
     ) -> Result<Rows<'r, 'b>, NoMemory>
         requires leaf { (source.now).leaf < length columns.now }
         requires fed { list_all (is_fed (column_at (map triplets_view columns.now) (source.now).leaf)
-            (length columns.now)) (map (source_view (map triplets_view columns.now)) ((source.now).beside).items) ≡ true }
+            (length columns.now))
+            (map (source_view (map triplets_view columns.now)) ((source.now).beside).items) ≡ true }
         ensures { IfOk result (λ r. rows_view r ≡ run (source.now).leaf
             (map (source_view (map triplets_view columns.now)) ((source.now).beside).items)
             (replicate (length columns.now) None) (column_at (map triplets_view columns.now) (source.now).leaf)) }
@@ -96,7 +97,8 @@ impl<'r, 'b> Rows<'r, 'b> {
     ) -> Result<Rows<'r, 'b>, NoMemory>
         requires leaf { (source.now).leaf < length columns.now }
         requires fed { list_all (is_fed (column_at (map triplets_view columns.now) (source.now).leaf)
-            (length columns.now)) (map (source_view (map triplets_view columns.now)) ((source.now).beside).items) ≡ true }
+            (length columns.now))
+            (map (source_view (map triplets_view columns.now)) ((source.now).beside).items) ≡ true }
         ensures { IfOk result (λ r. rows_view r ≡ picked bits.now (run (source.now).leaf
             (map (source_view (map triplets_view columns.now)) ((source.now).beside).items)
             (replicate (length columns.now) None) (column_at (map triplets_view columns.now) (source.now).leaf))) }

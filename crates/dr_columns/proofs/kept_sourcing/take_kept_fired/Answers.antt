@@ -4,8 +4,8 @@ use Rattle.dr_meaning.specs.Column.{Triplet}
 use Rattle.dr_levels.specs.Views.{triplets_view}
 use Rattle.dr_beside.specs.Neighbours.{column_at}
 use Rattle.dr_beside.specs.Spreading.{repetitions_of}
-use Rattle.dr_judging.specs.KeptBits.{bits_of, common_at}
-use Rattle.dr_judging.proofs.KeepingLemmas.{spread_long}
+use Rattle.dr_rows_beside.specs.KeptBits.{bits_of, common_at}
+use Rattle.dr_rows_beside.proofs.KeepingLemmas.{spread_long}
 use Rattle.dr_columns.proofs.kept_sourcing.take_kept_fired.Goals as goal
 
 pub take_kept_source-requires-clause-bits : goal.take_kept_source-requires-clause-bits

@@ -1,7 +1,7 @@
 use Rattle.std.proofs.Common.{◌≡◌, ◌∙◌, List, Ok, sym, ap, subst}
 use Rattle.dr_meaning.specs.Path.{Step}
 use Rattle.dr_condition.specs.Parted.{constants_hold}
-use Rattle.dr_judging.specs.Makings.{IsKeepingOf}
+use Rattle.dr_rows_beside.specs.Makings.{IsKeepingOf}
 use Rattle.dr_columns.proofs.TakenLemmas.{paths_same}
 use Rattle.dr_columns.proofs.keeps.Keeps.of.Goals as goal
 

@@ -1,7 +1,0 @@
-use Rattle.dr_agreement.specs.Cuts.{repetitions}
-use Rattle.dr_judging.specs.Judging.{AreGathered}
-use Rattle.dr_judging.proofs.judging.gather_each.Given as goal
-
--- those of the depths before this one are put
-abbrev pub invariant-depths : goal.invariant-depths
-invariant-depths l = AreGathered (repetitions l.levels) l.bits l.depth l.out

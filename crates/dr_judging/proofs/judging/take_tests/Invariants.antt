@@ -1,9 +1,0 @@
-use Rattle.std.proofs.Common.{◌≡◌, map, take}
-use Rattle.dr_levels.specs.Views.{triplets_view}
-use Rattle.dr_agreement.specs.Cuts.{repetitions}
-use Rattle.dr_judging.specs.Judging.{narrowed_by}
-use Rattle.dr_judging.proofs.judging.take_tests.Given as goal
-
--- the tests before this one are taken
-abbrev pub invariant-tests : goal.invariant-tests
-invariant-tests l = l.bits ≡ narrowed_by (map triplets_view l.columns) (repetitions l.levels) (take l.test-index l.tests) l.fn.bits

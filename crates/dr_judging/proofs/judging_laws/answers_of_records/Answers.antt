@@ -1,5 +1,0 @@
-use Rattle.dr_judging.proofs.TestRowLemmas.{answers_of_records}
-use Rattle.dr_judging.proofs.judging_laws.answers_of_records.Goals as goal
-
-pub returns : goal.returns
-returns c = answers_of_records

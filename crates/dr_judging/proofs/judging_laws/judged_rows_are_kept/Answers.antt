@@ -1,5 +1,0 @@
-use Rattle.dr_judging.proofs.KeptLemmas.{judged_rows_are_kept}
-use Rattle.dr_judging.proofs.judging_laws.judged_rows_are_kept.Goals as goal
-
-pub returns : goal.returns
-returns c = judged_rows_are_kept

@@ -1,5 +1,0 @@
-use Rattle.dr_judging.proofs.KeepsLemmas.{keeping_holds}
-use Rattle.dr_judging.proofs.judging_laws.keeping_holds.Goals as goal
-
-pub returns : goal.returns
-returns c = keeping_holds

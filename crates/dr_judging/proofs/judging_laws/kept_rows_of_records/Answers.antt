@@ -1,5 +1,0 @@
-use Rattle.dr_judging.proofs.KeptRowLemmas.{kept_rows_of_records}
-use Rattle.dr_judging.proofs.judging_laws.kept_rows_of_records.Goals as goal
-
-pub returns : goal.returns
-returns c = kept_rows_of_records
