@@ -1,7 +1,7 @@
 #!/usr/bin/env bash
 # Measures four queries over N generated records (150,000 where no N is given, about 22 MB of JSON), loaded into one tablet and into ten, and asked of the records
 # themselves: a line for each: processor seconds, wall seconds, and the most memory in MB. Then one of them over a tenth of the records, by which time and memory grow,
-# and over the ten tablets with one worker, two and four. Last, where rustc is there, these queries over the one tablet beside a hand-written reader
+# and over the ten tablets with one worker, two and four; groups of 1,000,000 flat records, 1,000 groups of them and 100,000, in random order. Last, where rustc is there, these queries over the one tablet beside a hand-written reader
 # (bench/limit/limit.rs, plain Rust on one thread, which must print the same): a line for each, with the least processor seconds of five runs of the program and of the
 # reader, in turn, and their ratio. Let nothing else run.
 # usage: bench/query.sh [N] [PROGRAM]
@@ -69,6 +69,31 @@ for workers in (1, 2, 4):
     best[workers] = wall, processor = min(it[0] for it in runs), min(it[1] for it in runs)
     print(f"five aggregates, ten tablets, {workers} workers{'':9} processor {processor:7.2f} s ({processor / best[1][1]:.2f} of one's)  "
           f"wall {wall:7.2f} s ({wall / best[1][0]:.2f} of one's)")
+PY
+
+# groups in random order: the least processor seconds of five runs over 1,000,000 records, with 1,000 groups and with 100,000, in turn
+python3 - "$program" "$work" <<'PY'
+import os, random, resource, subprocess, sys
+program, work = sys.argv[1:]
+with open(work + "/flat.txt", "w") as schema:
+    schema.write("message Flat { required int64 k; required int64 v; }\n")
+tables = {}
+for groups in (1_000, 100_000):
+    made = random.Random(groups)
+    lines = "".join(f'{{"k":{made.randrange(groups)},"v":{made.randrange(1000)}}}\n' for _ in range(1_000_000))
+    os.mkdir(f"{work}/flat{groups}")
+    tables[groups] = f"{work}/flat{groups}.table"
+    subprocess.run([program, "load", "--schema", work + "/flat.txt", "--table", tables[groups], "--rows", "1000000", f"{work}/flat{groups}"], input=lines.encode(), check=True)
+
+def once(table):
+    used = resource.getrusage(resource.RUSAGE_CHILDREN)
+    subprocess.check_call([program, "query", "--table", table, "SELECT k, COUNT(*) AS n, SUM(v) AS s FROM Flat GROUP BY k"], stdout=subprocess.DEVNULL)
+    now = resource.getrusage(resource.RUSAGE_CHILDREN)
+    return now.ru_utime + now.ru_stime - used.ru_utime - used.ru_stime
+
+runs = [[once(table) for table in tables.values()] for _ in range(5)]
+few, many = (min(run[at] for run in runs) for at in (0, 1))
+print(f"groups of 1,000,000 records in random order  1,000 groups {few:.3f} s  100,000 groups {many:.3f} s  ratio {many / few:.2f}")
 PY
 
 # beside a hand-written reader: the least processor seconds of five runs of either, in turn

@@ -1,8 +1,8 @@
 #!/usr/bin/env bash
 # Measures reading N generated records (150,000 where no N is given, about 22 MB of JSON) beside other readers of the same lines: `load` and `ask` of one COUNT beside Rust's
-# serde_json into its `Value` (where cargo and its crates are there) and a hand-written loader (bench/limit/load.rs, where rustc is there), which has to write the same file; and `ask` of
-# the four queries of query.sh beside Python with orjson, and node (where these are there), which have to print the same. A line for each, with the least processor seconds of five runs in
-# turn, and in brackets what the program's are of it. Let nothing else run.
+# serde_json into its `Value` (where cargo and its crates are there) and a hand-written loader (bench/limit/load.rs, where rustc is there), which has to write the same file; `query` of the
+# five aggregates of query.sh over the table beside jq over the lines; and `ask` of the four queries of query.sh beside Python with orjson, and node. What isn't there is left out; each has
+# to print the same. A line for each, with the least processor seconds of five runs in turn, and in brackets what the program's are of it. Let nothing else run.
 # usage: bench/rivals.sh [N] [PROGRAM]
 set -euo pipefail
 count=${1:-150000}
@@ -54,6 +54,11 @@ queries = {
     "objects": "SELECT DocId, COUNT(Name.Language.Code) WITHIN Name AS codes FROM Document WHERE Name.Url LIKE 'http://u/1%'",
     "selective": "SELECT COUNT(*) AS n FROM Document WHERE DocId < 100",
 }
+by_jq = """reduce inputs as $d ({r: 0, c: 0, u: 0, f: 0, m: null}; {
+  r: (.r + 1), c: (.c + ([$d.Name[]?.Language[]?.Code | values] | length)), u: (.u + ([$d.Name[]?.Url | values] | length)),
+  f: (.f + ([$d.Links.Forward[]?] | add // 0)), m: ([.m, $d.DocId] | max)})"""
+if shutil.which("jq"):
+    compared("query, five", [program, "query", "--table", f"{work}/t.table", queries["five"]], {"jq": ["jq", "-nc", by_jq]}, True)
 has_orjson = subprocess.call([sys.executable, "-c", "import orjson"], stderr=subprocess.DEVNULL) == 0
 for name, query in queries.items():
     others = {"orjson": [sys.executable, f"{top}/bench/rivals/ask.py", name]} if has_orjson else {}
