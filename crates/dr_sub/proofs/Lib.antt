@@ -2,3 +2,14 @@
 pub mod PlacedLemmas
 -- objects that are striped one after another
 pub mod StripingLemmas
+-- the fields of a result
+pub mod FieldLemmas
+-- the chains of expressions
+pub mod ChainLemmas
+pub mod OperandLemmas
+-- the kinds of a plan's terms
+pub mod KindLemmas
+-- the names that items need
+pub mod NameLemmas
+-- the schema of what a plan gives
+pub mod SchemaLemmas
