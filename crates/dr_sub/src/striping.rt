@@ -15,7 +15,8 @@ use dr_striper::Striper;
 /// Appends the first so many objects of a shape, as records, to the columns of a striper, each of whose leaves takes
 /// what they give it.
 ///
-/// Errors: want of memory, or of room for texts; the columns then have the first of these records, and whole ones alone.
+/// Errors: want of memory, or of room for texts; the columns then have the first of these records, and whole ones
+/// alone.
 pub fn stripe_objects(
     shape: &Shape,
     cells: &Cells,
