@@ -1,0 +1,15 @@
+-- what the fields of an object that is read of cells have
+pub mod PlacedLemmas
+-- objects that are striped one after another
+pub mod StripingLemmas
+-- the fields of a result
+pub mod FieldLemmas
+-- the chains of expressions
+pub mod ChainLemmas
+pub mod OperandLemmas
+-- the kinds of a plan's terms
+pub mod KindLemmas
+-- the names that items need
+pub mod NameLemmas
+-- the schema of what a plan gives
+pub mod SchemaLemmas
