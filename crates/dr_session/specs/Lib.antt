@@ -10,5 +10,7 @@ pub mod Signs
 pub mod Spoken
 -- how a line's text is written
 pub mod Saying
+-- what a line comes to, whatever session is held
+pub mod Steps
 -- what a session over an input comes to
 pub mod Talking

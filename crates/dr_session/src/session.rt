@@ -13,6 +13,7 @@ ghost use Rattle.dr_striper.specs.Striping.{leaves_of};
 ghost use Rattle.dr_meaning.specs.Session.{Session as Meant, new_session, heard, keeps, publishes, answers, asked_text};
 ghost use Rattle.dr_session.specs.Faults.{Hears};
 ghost use Rattle.dr_session.specs.Held.{IsSession, HoldsSome};
+ghost use Rattle.dr_session.specs.Steps.{HearsFrom};
 
 use crate::fault::{HearFault, SessionProblem};
 use crate::kept::Kept;
@@ -81,9 +82,8 @@ impl<'s, B: Room> Session<'s, B> {
         line: &[u8],
     ) -> Result<String, HearFault>
         requires held { HoldsSome B.schema self.old.kept self.old.publisher }
-        ensures heard { (w : Meant) → IsSession B.schema w self.old.kept self.old.publisher
-            → Hears (heard B.schema w number line.now) (λ v. IsSession B.schema v self.new.kept self.new.publisher)
-            result }
+        ensures heard { HearsFrom B.schema (λ w. heard B.schema w number line.now)
+            self.old.kept self.old.publisher self.new.kept self.new.publisher result }
     {
         if line.len() > LONGEST_LINE {
             return Err(HearFault::Refused(SessionProblem::TooLong));
@@ -102,9 +102,8 @@ impl<'s, B: Room> Session<'s, B> {
     /// `+RECORD`: keeps a record.
     fn keep(&mut self, line: &[u8]) -> Result<String, HearFault>
         requires held { HoldsSome B.schema self.old.kept self.old.publisher }
-        ensures heard { (w : Meant) → IsSession B.schema w self.old.kept self.old.publisher
-            → Hears (keeps B.schema w line.now) (λ v. IsSession B.schema v self.new.kept self.new.publisher)
-            result }
+        ensures heard { HearsFrom B.schema (λ w. keeps B.schema w line.now)
+            self.old.kept self.old.publisher self.new.kept self.new.publisher result }
     {
         let schema = self.service.schema();
         match self.kept.keep(self.alloc, schema, line) {
@@ -116,9 +115,8 @@ impl<'s, B: Room> Session<'s, B> {
     /// `.`: publishes the records that are kept, as one file.
     fn publish<R: Wait>(&mut self, rt: &R) -> Result<String, HearFault>
         requires held { HoldsSome B.schema self.old.kept self.old.publisher }
-        ensures heard { (w : Meant) → IsSession B.schema w self.old.kept self.old.publisher
-            → Hears (publishes w) (λ v. IsSession B.schema v self.new.kept self.new.publisher)
-            result }
+        ensures heard { HearsFrom B.schema publishes
+            self.old.kept self.old.publisher self.new.kept self.new.publisher result }
     {
         if self.publisher.count() >= MOST_TABLETS as u64 {
             return Err(HearFault::Refused(SessionProblem::Full));
@@ -145,9 +143,8 @@ impl<'s, B: Room> Session<'s, B> {
     /// `?QUERY`: asks all that is published.
     fn ask<R: Threads + Wait + Sync>(&mut self, rt: &R, text: &[u8]) -> Result<String, HearFault>
         requires held { HoldsSome B.schema self.old.kept self.old.publisher }
-        ensures heard { (w : Meant) → IsSession B.schema w self.old.kept self.old.publisher
-            → Hears (answers B.schema w (read_query B.schema (asked_text text.now)))
-            (λ v. IsSession B.schema v self.new.kept self.new.publisher) result }
+        ensures heard { HearsFrom B.schema (λ w. answers B.schema w (read_query B.schema (asked_text text.now)))
+            self.old.kept self.old.publisher self.new.kept self.new.publisher result }
     {
         let schema = self.service.schema();
         match plan_of(self.alloc, schema, text) {

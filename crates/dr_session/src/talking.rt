@@ -5,9 +5,10 @@ ghost use Rattle.dr_meaning.specs.Path.{leaves};
 ghost use Rattle.dr_nested.specs.SchemaView.{schema_view};
 ghost use Rattle.dr_striper.specs.Striping.{leaves_of};
 ghost use Rattle.dr_lines.specs.Cutting.{rest_of, last_line, fault_of as line_fault_of, CutsLine, CutsBytes, IsEnd};
-ghost use Rattle.dr_meaning.specs.Session.{Session as Meant, new_session, heard, most_lines};
+ghost use Rattle.dr_meaning.specs.Session.{new_session, heard, most_lines};
 ghost use Rattle.dr_session.specs.Held.{IsSession, HoldsSome};
-ghost use Rattle.dr_session.specs.Saying.{Says, CutStops, cut_fault_in};
+ghost use Rattle.dr_session.specs.Saying.{CutStops, cut_fault_in};
+ghost use Rattle.dr_session.specs.Steps.{SaysFrom};
 ghost use Rattle.dr_session.specs.Talking.{TalksToEnd, TalkStops};
 ghost use Rattle.dr_session.specs.declared.talking.TalkFault.TheVariants as stops;
 
@@ -92,9 +93,8 @@ fn answer_line<B: Room, R: Threads + Wait + Sync, O: Sink>(
     out: &mut O,
 ) -> Result<(), TalkFault>
     requires held { HoldsSome B.schema session.old.kept session.old.publisher }
-    ensures said { (w : Meant) → IsSession B.schema w session.old.kept session.old.publisher
-        → Says (heard B.schema w number line.now) (λ v. IsSession B.schema v session.new.kept session.new.publisher)
-        number (O.shows out.old) (O.shows out.new) result }
+    ensures said { SaysFrom B.schema number (λ w. heard B.schema w number line.now) session.old.kept
+        session.old.publisher session.new.kept session.new.publisher (O.shows out.old) (O.shows out.new) result }
 {
     match session.hear(rt, number, line) {
         Ok(text) => match write_all(out, text.as_bytes()) {
