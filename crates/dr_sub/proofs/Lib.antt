@@ -13,3 +13,5 @@ pub mod KindLemmas
 pub mod NameLemmas
 -- the schema of what a plan gives
 pub mod SchemaLemmas
+-- queries over the results of others
+pub mod NestedLemmas

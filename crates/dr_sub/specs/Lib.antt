@@ -8,3 +8,5 @@ pub mod ResultFields
 pub mod ResultNames
 -- the schema of what a plan gives
 pub mod ResultSchemas
+-- plans of queries over the results of others
+pub mod NestedPlans
