@@ -6,3 +6,5 @@ pub mod DenseLemmas
 -- lemmas of the orders of leaves
 pub mod OrderLemmas
 pub mod WithinLemmas
+-- levels, those of each kind by themselves
+pub mod ApartLemmas

@@ -12,3 +12,5 @@ pub mod Columns
 pub mod Orders
 -- what is known of the open branches of a walk
 pub mod Branches
+-- levels, those of each kind by themselves
+pub mod Apart

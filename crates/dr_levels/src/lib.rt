@@ -1,6 +1,7 @@
 //! Columns of values with their levels, and what the levels of paths have in common (Dremel 2010, section 4.1).
 #![tactic(auto)]
 
+mod apart;
 mod chains;
 mod column;
 mod joining;
@@ -15,6 +16,7 @@ mod triplets;
 mod values;
 mod values_ref;
 
+pub use apart::{PIECE, part, put_both};
 pub use chains::chain;
 pub use column::Column;
 pub use kept::{Branch, Kept};

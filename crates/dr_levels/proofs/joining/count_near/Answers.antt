@@ -1,7 +1,7 @@
 use Rattle.std.proofs.Common.{get_or, arith}
 use Rattle.dr_levels.specs.declared.triplet.Levels.{Levels}
 use Rattle.dr_levels.proofs.DenseLemmas.{counted_more, value_byte}
-use Rattle.dr_levels.proofs.joining.count_piece.Goals as goal
+use Rattle.dr_levels.proofs.joining.count_near.Goals as goal
 
 pub levels-preserved : goal.levels-preserved
 levels-preserved c =

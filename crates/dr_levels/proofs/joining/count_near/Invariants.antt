@@ -1,6 +1,6 @@
 use Rattle.std.proofs.Common.{◌≡◌, ◌≤◌, take}
 use Rattle.dr_levels.specs.Dense.{present}
-use Rattle.dr_levels.proofs.joining.count_piece.Given as goal
+use Rattle.dr_levels.proofs.joining.count_near.Given as goal
 
 -- the places before this one are counted
 abbrev pub invariant-levels : goal.invariant-levels

@@ -1,0 +1,10 @@
+use Rattle.std.proofs.Common.{◌≡◌, ◌%◌, ◌/◌, map, take}
+use Rattle.dr_levels.specs.Apart.{definitions, repetitions}
+use Rattle.dr_levels.proofs.apart.put_both.Given as goal
+
+-- the levels before this one are put
+abbrev pub invariant-levels : goal.invariant-levels
+invariant-levels l = record {
+  repetitions : map (λ n. n % 256) (take l.at l.both) ≡ repetitions (take l.at l.levels);
+  definitions : map (λ n. n / 256) (take l.at l.both) ≡ definitions (take l.at l.levels);
+}
