@@ -1,13 +1,13 @@
 -- Levels cut where records begin.
-use Rattle.std.proofs.Common.{◌≡◌, ◌++◌, ◌%◌, set, ℕ, zero, suc, ◌+◌, ◌<◌, ◌≤◌, List, [], ◌∷◌, map, length, take, drop, get_or, ◌-◌, Bool, true, false, refl, sym, ap, ap₂, subst, ◌∙◌, arith, add-one}
+use Rattle.std.proofs.Common.{◌≡◌, ℕ, zero, suc, ◌+◌, ◌<◌, ◌≤◌, List, [], ◌∷◌, map, length, take, drop, get_or, ◌-◌, Bool, true, false, refl, sym, ap, ap₂, subst, ◌∙◌, arith, add-one}
 use Rattle.std.specs.Prelude.{◌==◌, if◌then◌else◌}
-use mir.Val.{bool_byte}
-use Rattle.std.proofs.lemmas.List.{length-map, take-map, drop-map, map_push, take_more, take_more_set}
+use Rattle.std.proofs.lemmas.List.{length-map, take-map, drop-map}
 use Rattle.dr_meaning.specs.Column.{Triplet}
 use Rattle.dr_meaning.specs.OneColumn as meant
 use Rattle.dr_levels.specs.Views.{levels_pair, triplet_levels}
 use Rattle.dr_levels.specs.declared.triplet.Levels.{Levels}
-use Rattle.dr_agreement.specs.Cuts.{begins, definitions, repetitions, starts, IsCut}
+use Rattle.dr_levels.specs.Apart.{repetitions}
+use Rattle.dr_agreement.specs.Cuts.{begins, starts, IsCut}
 
 starts_taken : (rs : List ℕ) (i : ℕ) → i < length rs → starts (take (suc i) rs) ≡ starts (take i rs) + (if get_or rs i 0 == 0 then 1 else 0)
 starts_taken [] i h = absurd (omega (arith, h))
@@ -93,36 +93,6 @@ begun_parts (suc n) [] = omega arith
 begun_parts (suc n) (l ∷ ls) = omega (arith, begun_parts n ls)
 
 -- ---- levels of triplets
-
-pub repetition_at : (ls : List Levels) (i : ℕ) (d : Levels) → d.repetition ≡ 0 → (get_or ls i d).repetition ≡ get_or (repetitions ls) i 0
-repetition_at [] i d e = e
-repetition_at (l ∷ ls) zero d e = refl
-repetition_at (l ∷ ls) (suc i) d e = repetition_at ls i d e
-
-pub definition_at : (ls : List Levels) (i : ℕ) (d : Levels) → d.definition ≡ 0 → (get_or ls i d).definition ≡ get_or (definitions ls) i 0
-definition_at [] i d e = e
-definition_at (l ∷ ls) zero d e = refl
-definition_at (l ∷ ls) (suc i) d e = definition_at ls i d e
-
-pub remainder_at : (ns : List ℕ) (i : ℕ) → get_or (map (λ n. n % 256) ns) i 0 ≡ get_or ns i 0 % 256
-remainder_at [] zero = refl
-remainder_at [] (suc i) = refl
-remainder_at (n ∷ ns) zero = refl
-remainder_at (n ∷ ns) (suc i) = remainder_at ns i
-
--- one more level of each place is put
-pub put_more : (f : ℕ → ℕ) (g : Levels → ℕ) (ns : List ℕ) (ls : List Levels) (i n : ℕ) (d : Levels) → i < length ns → i < length ls → f n ≡ g (get_or ls i d) → map f (take i ns) ≡ map g (take i ls)
-    → map f (take (i + 1) (set ns i n)) ≡ map g (take (i + 1) ls)
-put_more f g ns ls i n d h k e s =
-    ap (map f) (take_more_set ns i n h) ∙ (map_push f (take i ns) n ∙ (ap₂ (λ (ys : List ℕ) (y : ℕ). ys ++ y ∷ []) s e ∙ (sym (map_push g (take i ls) (get_or ls i d)) ∙ ap (map g) (sym (take_more ls i d k)))))
-
-pub one_if : (b : Bool) → bool_byte b ≡ (if b then 1 else 0)
-one_if true = refl
-one_if false = refl
-
-pub at_most_one : (b : Bool) → (if b then 1 else 0) ≤ 1
-at_most_one true = omega arith
-at_most_one false = omega arith
 
 abbrev first_of : ℕ × ℕ → ℕ
 first_of x = x.0

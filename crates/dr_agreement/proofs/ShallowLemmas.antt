@@ -3,16 +3,15 @@ use Rattle.std.proofs.Common.{◌≡◌, ℕ, zero, suc, ◌+◌, ◌<◌, ◌�
 use Rattle.std.specs.Prelude.{nat_le}
 use Rattle.std.proofs.lemmas.Bool.{cases_lt}
 use Rattle.std.proofs.lemmas.Bool.Decides.{nat_tests}
-use Rattle.std.proofs.lemmas.List.{length-map}
 use Rattle.dr_meaning.specs.Path.{Step, Leaf, max_repetition}
 use Rattle.dr_levels.specs.Views.{levels_pair}
 use Rattle.dr_levels.specs.declared.triplet.Levels.{Levels}
 use Rattle.dr_agreement.specs.Alone.{least_levels, may_stand, each_may_stand, shallow_least, IsShallowOf, IsTestOf}
-use Rattle.dr_agreement.specs.Cuts.{definitions, repetitions}
+use Rattle.dr_levels.specs.Apart.{definitions, repetitions}
 use Rattle.dr_agreement.specs.declared.column_of_leaf.LeafTest.{LeafTest}
 use Rattle.dr_agreement.specs.declared.shallow.Shallow.{Shallow}
 use Rattle.dr_agreement.proofs.AloneLemmas.{least_count, stand_more, stands_by, stands_not}
-use Rattle.dr_agreement.proofs.CutLemmas.{definition_at, repetition_at}
+use Rattle.dr_levels.proofs.ApartLemmas.{as_many, definition_at, repetition_at}
 
 is_le : (a b : ℕ) → a ≤ b → nat_le a b ≡ true
 is_le a b h = grind (arith, nat_tests)
@@ -62,14 +61,14 @@ pub parts_more : (p : List Step) (last : ℕ) (ls : List Levels) (i : ℕ) (rs d
     → (fits && each_may_stand p last (map levels_pair (drop i ls))) ≡ ((fits && b) && each_may_stand p (get_or ds i 0) (map levels_pair (drop (i + 1) ls)))
 parts_more p last ls i rs ds fits b r d h e =
     let z : Levels = record { repetition = 0; definition = 0 } in
-    let n : i < length ls = omega (arith, h, ap length r, length-map ls (λ (l : Levels). l.repetition)) in
+    let n : i < length ls = omega (arith, h, as_many ls rs r) in
     let x : (get_or ls i z).repetition ≡ get_or rs i 0 = repetition_at ls i z refl ∙ ap (λ (xs : List ℕ). get_or xs i 0) r in
     let y : (get_or ls i z).definition ≡ get_or ds i 0 = definition_at ls i z refl ∙ ap (λ (xs : List ℕ). get_or xs i 0) d in
     stand_more p last ls i z fits b n (e ∙ ap₂ (λ (a c : ℕ). may_stand p last (a, c)) (sym x) (sym y))
     ∙ ap (λ (k : ℕ). (fits && b) && each_may_stand p k (map levels_pair (drop (i + 1) ls))) y
 
 pub parts_end : (p : List Step) (last : ℕ) (ls : List Levels) (i : ℕ) (rs : List ℕ) (fits : Bool) → repetitions ls ≡ rs → length rs ≤ i → (fits && each_may_stand p last (map levels_pair (drop i ls))) ≡ fits
-parts_end p last ls i rs fits r h = by ls i (omega (arith, h, ap length r, length-map ls (λ (l : Levels). l.repetition)))
+parts_end p last ls i rs fits r h = by ls i (omega (arith, h, as_many ls rs r))
   where
     and_one : (b : Bool) → (b && true) ≡ b
     and_one true = refl

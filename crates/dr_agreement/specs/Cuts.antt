@@ -1,14 +1,5 @@
 -- Levels cut where records begin.
-use Rattle.std.specs.Prelude.{◌≡◌, ℕ, ◌+◌, ◌≤◌, List, [], ◌∷◌, map, length, take, drop, Bool, true, ◌==◌, if◌then◌else◌}
-use Rattle.dr_levels.specs.declared.triplet.Levels.{Levels}
-
--- the repetition levels
-abbrev pub repetitions : List Levels → List ℕ
-repetitions ls = map (λ (l : Levels). l.repetition) ls
-
--- the definition levels
-abbrev pub definitions : List Levels → List ℕ
-definitions ls = map (λ (l : Levels). l.definition) ls
+use Rattle.std.specs.Prelude.{◌≡◌, ℕ, ◌+◌, ◌≤◌, List, [], ◌∷◌, length, take, drop, Bool, true, ◌==◌, if◌then◌else◌}
 
 -- the first one, if there is one, begins a record
 abbrev pub begins : List ℕ → Bool

@@ -2,11 +2,11 @@
 
 ghost use Rattle.std.specs.Prelude.{◌≡◌, ◌≤◌, ◌%◌, length, map, take, drop, true};
 ghost use Rattle.dr_meaning.specs.OneColumn.{begins_record, starts as records_begun};
+ghost use Rattle.dr_levels.specs.Apart.{repetitions};
 ghost use Rattle.dr_levels.specs.Views.{triplets_view};
-ghost use Rattle.dr_agreement.specs.Cuts.{begins, repetitions, starts, IsCut};
+ghost use Rattle.dr_agreement.specs.Cuts.{begins, starts, IsCut};
 
-use crate::apart::{PIECE, put_both};
-use dr_levels::{Levels, Triplets};
+use dr_levels::{Levels, PIECE, Triplets, put_both};
 
 /// How many of a few levels begin a record. All are looked at, many at once.
 #[inline(always)]

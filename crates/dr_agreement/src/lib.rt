@@ -4,7 +4,6 @@
 
 mod agreement;
 mod alone;
-mod apart;
 mod append;
 mod at_hand;
 mod column_of_leaf;

@@ -2,13 +2,12 @@
 
 ghost use Rattle.std.specs.Prelude.{◌≡◌, ◌≤◌, ℕ, List, length, map};
 ghost use Rattle.dr_meaning.specs.Path.{Step as MeantStep};
+ghost use Rattle.dr_levels.specs.Apart as apart;
 ghost use Rattle.dr_levels.specs.Views.{levels_pair};
 ghost use Rattle.dr_levels.specs.declared.triplet.Levels.{Levels as MeantLevels};
 ghost use Rattle.dr_agreement.specs.Alone.{each_may_stand, may_stand, shallow_least, IsShallowOf};
-ghost use Rattle.dr_agreement.specs.Cuts as cut;
 
-use crate::apart::{PIECE, part, put_both};
-use dr_levels::Levels;
+use dr_levels::{Levels, PIECE, part, put_both};
 
 /// The greatest levels of a leaf with at most three repeated fields, and the definition levels that the triplets have at
 /// least between which the repetition levels 1, 2 and 3 stand.
@@ -54,7 +53,7 @@ impl Shallow {
     fn parts_may_stand(self, before: u8, repetitions: &[u8], definitions: &[u8]) -> bool
         requires { length definitions.now ≡ length repetitions.now }
         ensures { (p : List MeantStep) (ls : List MeantLevels) → IsShallowOf p self
-            → cut.repetitions ls ≡ repetitions.now → cut.definitions ls ≡ definitions.now
+            → apart.repetitions ls ≡ repetitions.now → apart.definitions ls ≡ definitions.now
             → result ≡ each_may_stand p before (map levels_pair ls) }
     {
         let mut last = before;

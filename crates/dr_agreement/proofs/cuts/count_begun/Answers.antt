@@ -1,6 +1,7 @@
 use Rattle.std.proofs.Common.{◌≡◌, ◌∙◌, List, ap, arith, take, drop}
 use Rattle.dr_levels.specs.declared.triplet.Levels.{Levels}
-use Rattle.dr_agreement.specs.Cuts.{repetitions, starts}
+use Rattle.dr_levels.specs.Apart.{repetitions}
+use Rattle.dr_agreement.specs.Cuts.{starts}
 use Rattle.dr_agreement.proofs.CutLemmas.{begun_parts}
 use Rattle.dr_agreement.proofs.cuts.count_begun.Goals as goal
 

@@ -1,5 +1,6 @@
 use Rattle.std.proofs.Common.{◌≡◌, ◌≤◌, ◌+◌, length}
-use Rattle.dr_agreement.specs.Cuts.{repetitions, starts}
+use Rattle.dr_levels.specs.Apart.{repetitions}
+use Rattle.dr_agreement.specs.Cuts.{starts}
 use Rattle.dr_agreement.proofs.cuts.count_begun.Given as goal
 
 -- what is counted, and what is left

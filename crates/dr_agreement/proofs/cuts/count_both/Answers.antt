@@ -1,7 +1,8 @@
 use Rattle.std.proofs.Common.{◌≡◌, ◌<◌, ◌%◌, ◌∙◌, ℕ, List, length, map, get_or, ap, sym, arith}
 use Rattle.std.specs.Prelude.{◌==◌, if◌then◌else◌}
 use Rattle.std.proofs.lemmas.List.{length-map}
-use Rattle.dr_agreement.proofs.CutLemmas.{remainder_at, one_if, at_most_one, starts_more}
+use Rattle.dr_levels.proofs.ApartLemmas.{remainder_at, one_if, at_most_one}
+use Rattle.dr_agreement.proofs.CutLemmas.{starts_more}
 use Rattle.dr_agreement.proofs.cuts.count_both.Goals as goal
 
 pub levels-preserved : goal.levels-preserved

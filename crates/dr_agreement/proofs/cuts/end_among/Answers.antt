@@ -2,8 +2,8 @@ use Rattle.std.proofs.Common.{◌≡◌, ◌<◌, ◌∙◌, ℕ, length, get_or
 use Rattle.std.specs.Prelude.{◌==◌, if◌then◌else◌}
 use Rattle.std.proofs.lemmas.List.{length-map}
 use Rattle.dr_levels.specs.declared.triplet.Levels.{Levels}
-use Rattle.dr_agreement.specs.Cuts.{repetitions}
-use Rattle.dr_agreement.proofs.CutLemmas.{repetition_at, one_if, at_most_one}
+use Rattle.dr_levels.specs.Apart.{repetitions}
+use Rattle.dr_levels.proofs.ApartLemmas.{repetition_at, one_if, at_most_one}
 use Rattle.dr_agreement.proofs.CutLemmas.{starts_more, cut_here}
 use Rattle.dr_agreement.proofs.cuts.end_among.Goals as goal
 

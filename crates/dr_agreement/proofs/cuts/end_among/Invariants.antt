@@ -1,5 +1,5 @@
 use Rattle.std.proofs.Common.{◌≡◌, ◌≤◌, take}
-use Rattle.dr_agreement.specs.Cuts.{repetitions}
+use Rattle.dr_levels.specs.Apart.{repetitions}
 use Rattle.dr_agreement.specs.Cuts.{starts}
 use Rattle.dr_agreement.proofs.cuts.end_among.Given as goal
 

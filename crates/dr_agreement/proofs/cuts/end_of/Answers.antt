@@ -1,6 +1,7 @@
 use Rattle.std.proofs.Common.{◌≡◌, ◌≤◌, ◌+◌, ◌-◌, ◌∙◌, ℕ, List, ap, arith, length, subst, take, drop}
 use Rattle.dr_levels.specs.declared.triplet.Levels.{Levels}
-use Rattle.dr_agreement.specs.Cuts.{repetitions, starts, IsCut}
+use Rattle.dr_levels.specs.Apart.{repetitions}
+use Rattle.dr_agreement.specs.Cuts.{starts, IsCut}
 use Rattle.dr_agreement.proofs.CutLemmas.{begun_parts, cut_parts}
 use Rattle.dr_agreement.proofs.cuts.end_of.Goals as goal
 

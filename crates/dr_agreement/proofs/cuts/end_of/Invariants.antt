@@ -1,5 +1,6 @@
 use Rattle.std.proofs.Common.{◌≡◌, ◌≤◌, ◌+◌, length}
-use Rattle.dr_agreement.specs.Cuts.{repetitions, starts, IsCut}
+use Rattle.dr_levels.specs.Apart.{repetitions}
+use Rattle.dr_agreement.specs.Cuts.{starts, IsCut}
 use Rattle.std.proofs.Common.{ℕ}
 use Rattle.dr_agreement.proofs.cuts.end_of.Given as goal
 

@@ -2,8 +2,8 @@ use Rattle.std.proofs.Common.{◌≡◌, ◌&&◌, List, map, drop}
 use Rattle.dr_meaning.specs.Path.{Step}
 use Rattle.dr_levels.specs.Views.{levels_pair}
 use Rattle.dr_levels.specs.declared.triplet.Levels.{Levels}
+use Rattle.dr_levels.specs.Apart.{definitions, repetitions}
 use Rattle.dr_agreement.specs.Alone.{each_may_stand, IsShallowOf}
-use Rattle.dr_agreement.specs.Cuts.{definitions, repetitions}
 use Rattle.dr_agreement.proofs.shallow.Shallow.parts_may_stand.Given as goal
 
 -- those before this one may, and the others are left
