@@ -1,7 +1,6 @@
 -- Triplets of rows, a piece at a time.
 use Rattle.std.proofs.Common.{◌≡◌, ℕ, zero, suc, ◌+◌, ◌≤◌, ◌<◌, ◌-◌, List, [], ◌∷◌, ◌++◌, map, take, drop, length, get_or, Bool, true, false, refl, sym, ap, subst, ◌∙◌, append_assoc, arith}
 use Rattle.std.specs.Prelude.{◌==◌, ◌&&◌, not, if◌then◌else◌, Option, Some, None}
-use mir.Val.{bool_byte}
 use Rattle.std.proofs.lemmas.Bool.{false≢true, eqb-true}
 use Rattle.std.proofs.lemmas.List.{append-nil, drop_more, drop_all, take_all}
 use Rattle.dr_meaning.specs.Path.{Step}
@@ -155,14 +154,6 @@ begun_more (l ∷ ls) (suc i) d w =
 
 pub all_begun : (ls : List Levels) (i : ℕ) → length ls ≤ i → starts (map bare (take i ls)) ≡ starts (map bare ls)
 all_begun ls i w = ap (λ (xs : List Levels). starts (map bare xs)) (take_all i ls w)
-
-pub at_most_one : (b : Bool) → (if b then 1 else 0) ≤ 1
-at_most_one true = omega arith
-at_most_one false = omega arith
-
-pub one_if : (b : Bool) → bool_byte b ≡ (if b then 1 else 0)
-one_if true = refl
-one_if false = refl
 
 -- there are some
 pub some_there : (n : ℕ) (b : Bool) → b ≡ (n == 0) → b ≡ false → 0 < n

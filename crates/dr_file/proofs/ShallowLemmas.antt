@@ -2,12 +2,13 @@
 use Rattle.std.proofs.Common.{◌≡◌, ℕ, zero, suc, ◌+◌, ◌<◌, ◌≤◌, List, [], ◌∷◌, map, length, take, drop, get_or, Bool, true, false, refl, sym, ap, ap₂, ◌∙◌, arith}
 use Rattle.std.specs.Prelude.{◌==◌, ◌&&◌, if◌then◌else◌, None}
 use Rattle.std.proofs.lemmas.Bool.{ne_eqb}
-use Rattle.std.proofs.lemmas.List.{length-map}
 use Rattle.dr_meaning.specs.Path.{Step}
 use Rattle.dr_meaning.specs.Column.{triplet}
 use Rattle.dr_meaning.specs.OneColumn.{level_inside, may_follow, all_follow, starts}
 use Rattle.dr_levels.specs.declared.triplet.Levels.{Levels}
-use Rattle.dr_file.specs.Floors.{least_of, bare, shallow_least, repetitions, definitions, AreFloorsOf, AreShallowOf}
+use Rattle.dr_levels.specs.Apart.{definitions, repetitions}
+use Rattle.dr_levels.proofs.ApartLemmas.{as_many, definition_at, repetition_at}
+use Rattle.dr_file.specs.Floors.{least_of, bare, shallow_least, AreFloorsOf, AreShallowOf}
 use Rattle.dr_file.specs.declared.floors.Floors.{Floors}
 use Rattle.dr_file.specs.declared.shallow.Shallow.{Shallow}
 use Rattle.dr_file.proofs.FloorLemmas.{follow_by_level, level_is}
@@ -47,19 +48,6 @@ shallow_floors p f x h few a b c d = by
         past_least x (suc (suc (suc (suc j)))) (omega arith) ∙ (d ∙ (sym (none_past f.levels.items (suc (suc (suc j))) f.greatest (omega (arith, few))) ∙ at (suc (suc (suc j)))))
 
 -- ---- levels by themselves
-
-repetition_at : (ls : List Levels) (i : ℕ) (d : Levels) → d.repetition ≡ 0 → (get_or ls i d).repetition ≡ get_or (repetitions ls) i 0
-repetition_at [] i d e = e
-repetition_at (l ∷ ls) zero d e = refl
-repetition_at (l ∷ ls) (suc i) d e = repetition_at ls i d e
-
-definition_at : (ls : List Levels) (i : ℕ) (d : Levels) → d.definition ≡ 0 → (get_or ls i d).definition ≡ get_or (definitions ls) i 0
-definition_at [] i d e = e
-definition_at (l ∷ ls) zero d e = refl
-definition_at (l ∷ ls) (suc i) d e = definition_at ls i d e
-
-pub as_many : (ls : List Levels) (rs : List ℕ) → repetitions ls ≡ rs → length ls ≡ length rs
-as_many ls rs r = sym (length-map ls (λ (l : Levels). l.repetition)) ∙ ap length r
 
 -- one more is counted
 pub count_more : (ls : List Levels) (i begun one : ℕ) (rs : List ℕ) → repetitions ls ≡ rs → i < length rs → begun ≡ starts (map bare (take i ls)) → one ≡ (if get_or rs i 0 == 0 then 1 else 0)

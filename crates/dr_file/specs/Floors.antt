@@ -1,5 +1,5 @@
 -- The definition levels that the instances of a path's repeated fields have at least.
-use Rattle.std.specs.Prelude.{◌≡◌, ◌<◌, ℕ, zero, suc, ◌+◌, ◌==◌, List, [], ◌∷◌, map, if◌then◌else◌}
+use Rattle.std.specs.Prelude.{◌≡◌, ◌<◌, ℕ, zero, suc, ◌+◌, ◌==◌, List, [], ◌∷◌, if◌then◌else◌}
 use Rattle.std.specs.List.{slice_index_or}
 use Rattle.dr_meaning.specs.Schema.{Repetition, required, optional, repeated, definition_count}
 use Rattle.dr_meaning.specs.Path.{Step, max_definition}
@@ -49,10 +49,3 @@ shallow_least x r = if r == 0 then 0 else (if r == 1 then x.first else (if r == 
 -- these are they, of the path of such a leaf
 abbrev pub AreShallowOf : List Step → Shallow → Type 0
 AreShallowOf p x = (r : ℕ) → shallow_least x r ≡ least_of p r
-
--- the levels of each kind
-abbrev pub repetitions : List Levels → List ℕ
-repetitions ls = map (λ (l : Levels). l.repetition) ls
-
-abbrev pub definitions : List Levels → List ℕ
-definitions ls = map (λ (l : Levels). l.definition) ls

@@ -1,7 +1,6 @@
 //! Files of Apache Parquet, opened for some leaves of a schema by their footers.
 #![tactic(auto)]
 
-mod apart;
 mod chunk_place;
 mod column;
 mod fault;

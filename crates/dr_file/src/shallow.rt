@@ -4,13 +4,12 @@ ghost use Rattle.std.specs.Prelude.{◌≡◌, ◌≤◌, List, length, map, Non
 ghost use Rattle.dr_meaning.specs.Column.{triplet};
 ghost use Rattle.dr_meaning.specs.Path.{Step as MeantStep};
 ghost use Rattle.dr_meaning.specs.OneColumn.{starts, all_follow};
+ghost use Rattle.dr_levels.specs.Apart as apart;
 ghost use Rattle.dr_levels.specs.declared.triplet.Levels.{Levels as MeantLevels};
-ghost use Rattle.dr_file.specs.Floors as floors;
 ghost use Rattle.dr_file.specs.Floors.{bare, shallow_least, AreShallowOf};
 
-use crate::apart::{PIECE, part, put_both};
 use crate::floors::Following;
-use dr_levels::Levels;
+use dr_levels::{Levels, PIECE, part, put_both};
 
 /// The definition levels that the triplets have at least between which the repetition levels 1, 2 and 3 stand, and the
 /// one of all greater levels.
@@ -26,7 +25,7 @@ pub(crate) struct Shallow {
 #[inline(always)]
 fn count_zeros(repetitions: &[u8]) -> u8
     requires { length repetitions.now ≤ 224 }
-    ensures count { (ls : List MeantLevels) → floors.repetitions ls ≡ repetitions.now → result ≡ starts (map bare ls) }
+    ensures count { (ls : List MeantLevels) → apart.repetitions ls ≡ repetitions.now → result ≡ starts (map bare ls) }
     ensures within { result ≤ length repetitions.now }
 {
     let mut begun = 0u8;
@@ -61,7 +60,7 @@ impl Shallow {
     fn parts_follow(self, before: u8, repetitions: &[u8], definitions: &[u8]) -> bool
         requires { length definitions.now ≡ length repetitions.now }
         ensures { (p : List MeantStep) (ls : List MeantLevels) → AreShallowOf p self
-            → floors.repetitions ls ≡ repetitions.now → floors.definitions ls ≡ definitions.now
+            → apart.repetitions ls ≡ repetitions.now → apart.definitions ls ≡ definitions.now
             → result ≡ all_follow p (triplet 0 before None) (map bare ls) }
     {
         let mut last = before;

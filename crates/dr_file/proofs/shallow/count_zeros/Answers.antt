@@ -1,7 +1,8 @@
 use Rattle.std.proofs.Common.{◌≡◌, ◌∙◌, get_or, arith}
 use Rattle.std.specs.Prelude.{◌==◌, if◌then◌else◌}
-use Rattle.dr_file.proofs.RowOrderLemmas.{all_begun, at_most_one, one_if}
-use Rattle.dr_file.proofs.ShallowLemmas.{as_many, count_more}
+use Rattle.dr_levels.proofs.ApartLemmas.{as_many, at_most_one, one_if}
+use Rattle.dr_file.proofs.RowOrderLemmas.{all_begun}
+use Rattle.dr_file.proofs.ShallowLemmas.{count_more}
 use Rattle.dr_file.proofs.shallow.count_zeros.Goals as goal
 
 pub levels-preserved : goal.levels-preserved

@@ -2,7 +2,8 @@ use Rattle.std.proofs.Common.{◌≡◌, ◌∙◌, get_or, sym, arith}
 use Rattle.std.specs.Prelude.{◌==◌, if◌then◌else◌}
 use Rattle.dr_levels.specs.declared.triplet.Levels.{Levels}
 use Rattle.dr_file.proofs.FloorLemmas.{follow_tested}
-use Rattle.dr_file.proofs.RowOrderLemmas.{follow_more, all_followed, begun_more, all_begun, one_if, at_most_one}
+use Rattle.dr_levels.proofs.ApartLemmas.{one_if, at_most_one}
+use Rattle.dr_file.proofs.RowOrderLemmas.{follow_more, all_followed, begun_more, all_begun}
 use Rattle.dr_file.proofs.floors.Floors.follow_by_table.Goals as goal
 
 pub levels-preserved : goal.levels-preserved

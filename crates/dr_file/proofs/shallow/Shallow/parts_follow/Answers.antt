@@ -1,7 +1,8 @@
 use Rattle.std.proofs.Common.{◌∙◌, get_or, sym, arith}
 use Rattle.dr_file.proofs.FloorLemmas.{follow_tested}
 use Rattle.dr_file.proofs.RowOrderLemmas.{all_followed}
-use Rattle.dr_file.proofs.ShallowLemmas.{as_many, parts_more}
+use Rattle.dr_levels.proofs.ApartLemmas.{as_many}
+use Rattle.dr_file.proofs.ShallowLemmas.{parts_more}
 use Rattle.dr_file.proofs.shallow.Shallow.parts_follow.Goals as goal
 
 pub levels-preserved : goal.levels-preserved

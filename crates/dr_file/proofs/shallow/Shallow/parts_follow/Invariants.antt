@@ -3,7 +3,8 @@ use Rattle.dr_meaning.specs.Path.{Step}
 use Rattle.dr_meaning.specs.Column.{triplet}
 use Rattle.dr_meaning.specs.OneColumn.{all_follow}
 use Rattle.dr_levels.specs.declared.triplet.Levels.{Levels}
-use Rattle.dr_file.specs.Floors.{bare, definitions, repetitions, AreShallowOf}
+use Rattle.dr_levels.specs.Apart.{definitions, repetitions}
+use Rattle.dr_file.specs.Floors.{bare, AreShallowOf}
 use Rattle.dr_file.proofs.shallow.Shallow.parts_follow.Given as goal
 
 -- those before this one follow, and the others are left
