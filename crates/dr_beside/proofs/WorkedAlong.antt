@@ -2,7 +2,6 @@
 use Rattle.std.specs.Prelude.{◌≡◌, ℕ, List, [], ◌∷◌, map, length, Bool, true, false, pos, Option, Some, None, is_some, codes, refl}
 use Rattle.std.specs.List.{list_all, flat_map}
 use Rattle.std.proofs.Common.{ap}
-use Rattle.dr_meaning.specs.Path.{Step}
 use Rattle.dr_meaning.specs.Record.{Value, int_value, text_value, Node, is_record}
 use Rattle.dr_meaning.specs.Column.{Triplet, triplet, column}
 use Rattle.dr_meaning.specs.Rows.{rows, value_at}

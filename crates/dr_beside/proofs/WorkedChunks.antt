@@ -1,16 +1,15 @@
 -- Columns that records have, and chunks of them, by computation.
-use Rattle.std.specs.Prelude.{◌≡◌, ◌≤◌, ◌+◌, ℕ, List, [], ◌∷◌, ◌++◌, map, length, take, drop, true, pos, Option, Some, None, codes, refl}
-use Rattle.std.specs.List.{list_all}
+use Rattle.std.specs.Prelude.{◌≡◌, ◌≤◌, ◌+◌, ℕ, List, [], ◌∷◌, ◌++◌, length, take, drop, true, pos, Option, Some, None, codes, refl}
 use Rattle.std.specs.Str.{is_utf8, chars}
-use Rattle.std.proofs.Common.{sym, true≢false}
+use Rattle.std.proofs.Common.{sym, ap, true≢false}
 use Rattle.dr_meaning.specs.Schema.{no_fields, text_kind}
-use Rattle.dr_meaning.specs.Path.{Step, Leaf, is_leaf_path}
-use Rattle.dr_meaning.specs.Record.{Value, int_value, text_value, Node, is_record}
+use Rattle.dr_meaning.specs.Path.{Leaf}
+use Rattle.dr_meaning.specs.Record.{Value, int_value, text_value, Node}
 use Rattle.dr_meaning.specs.Column.{Triplet, triplet, column}
 use Rattle.dr_meaning.specs.OneColumn.{starts, begins_record, is_column}
 use Rattle.dr_meaning.proofs.WorkedSchemas.{document}
 use Rattle.dr_meaning.proofs.WorkedRecords.{record_10, record_20, record_30}
-use Rattle.dr_meaning.proofs.WorkedPaths.{doc_id, code, url}
+use Rattle.dr_meaning.proofs.WorkedPaths.{doc_id, url}
 use Rattle.dr_beside.specs.Chunks.{HasColumns, NoneHas, ColumnOfBoth, ColumnOfCut, CutColumnsPass, JoinedColumnsPass, IsChunk, AreChunks, ChunksOfRecords, NoneHasChunk, each_behind, ChunksAreJoined}
 
 abbrev word : List ℕ → Option Value
@@ -62,8 +61,15 @@ no_records_of_it h = true≢false (sym h.0)
 pub too_many_records : HasColumns document (doc_id ∷ []) ((id 10 ++ id 20) ∷ []) 1 (record_10 ∷ record_20 ∷ []) → ⊥
 too_many_records h = let e = h.1 in cc
 
-pub other_columns : HasColumns document (doc_id ∷ []) ((id 10 ++ id 30) ∷ []) 2 (record_10 ∷ record_20 ∷ []) → ⊥
-other_columns h = let e = h.2 in cc
+pub other_columns : HasColumns document (doc_id ∷ []) (id 10 ∷ []) 2 (record_10 ∷ record_20 ∷ []) → ⊥
+other_columns h = two_is_one (ap first_length h.2)
+  where
+    first_length : List (List Triplet) → ℕ
+    first_length [] = 0
+    first_length (c ∷ C) = length c
+
+    two_is_one : ◌≡◌ {A = ℕ} 2 1 → ⊥
+    two_is_one e = cc
 
 -- ---- one column
 
@@ -89,10 +95,13 @@ abbrev last_columns : List (List Triplet)
 last_columns = urls_30 ∷ id 30 ∷ []
 
 pub last_chunk : AreChunks 2 1 last_columns columns_of_three
-last_chunk =
-    (record { front = urls_10 ++ urls_20; back = []; lies = refl; behind = refl; so_many = refl; begins = refl; ends = refl },
-    (record { front = id 10 ++ id 20; back = []; lies = refl; behind = refl; so_many = refl; begins = refl; ends = refl },
-    tt))
+last_chunk = (
+  record { front = urls_10 ++ urls_20; back = []; lies = refl; behind = refl; so_many = refl; begins = refl; ends = refl },
+  (
+    record { front = id 10 ++ id 20; back = []; lies = refl; behind = refl; so_many = refl; begins = refl; ends = refl },
+    tt,
+  ),
+)
 
 -- the first two records' part
 pub first_chunk : AreChunks 0 2 ((urls_10 ++ urls_20) ∷ []) ((urls_10 ++ urls_20 ++ urls_30) ∷ [])

@@ -1,11 +1,10 @@
 -- Leaves and their neighbours, by computation: fronts of paths, outlines of columns up to them, and columns that agree there.
-use Rattle.std.specs.Prelude.{◌≡◌, ◌<◌, ◌≤◌, ℕ, zero, suc, List, [], ◌∷◌, ◌++◌, length, Bool, true, pos, Option, Some, None, codes, refl}
-use Rattle.std.specs.List.{list_all, slice_get}
-use Rattle.std.specs.Str.{is_utf8, chars}
-use Rattle.std.proofs.Common.{arith, subst, sym, ap, inl, inr}
-use Rattle.dr_meaning.specs.Schema.{Repetition, optional, repeated, text_kind}
-use Rattle.dr_meaning.specs.Path.{Step, Leaf, leaves, is_leaf_path}
-use Rattle.dr_meaning.specs.Record.{Value, int_value, text_value, Node, is_record}
+use Rattle.std.specs.Prelude.{◌≡◌, ◌<◌, ◌≤◌, ℕ, zero, suc, List, [], ◌∷◌, length, true, pos, Option, Some, None, codes, refl}
+use Rattle.std.specs.List.{slice_get}
+use Rattle.std.proofs.Common.{arith, subst, inl, inr}
+use Rattle.dr_meaning.specs.Schema.{optional, text_kind}
+use Rattle.dr_meaning.specs.Path.{Step, Leaf, leaves}
+use Rattle.dr_meaning.specs.Record.{Value, int_value, Node}
 use Rattle.dr_meaning.specs.Column.{Triplet, triplet, column}
 use Rattle.dr_meaning.specs.OneColumn.{is_column}
 use Rattle.dr_meaning.proofs.WorkedSchemas.{document}

@@ -7,7 +7,7 @@ use Rattle.dr_meaning.specs.Rows.{rows, value_at}
 use Rattle.dr_kept_laws.specs.RowsOfKept.{kept_rows}
 use Rattle.dr_meaning.proofs.WorkedSchemas.{document}
 use Rattle.dr_meaning.proofs.WorkedRecords.{record_10, record_20, numbers}
-use Rattle.dr_meaning.proofs.WorkedPaths.{name, language_level, code, country, url}
+use Rattle.dr_meaning.proofs.WorkedPaths.{name, language_level, country, url}
 use Rattle.dr_beside.specs.Sifting.{any_until, bits_at, next_bit, rest_bits, if_kept, sift, KeptBeside}
 
 abbrev both : List Node
