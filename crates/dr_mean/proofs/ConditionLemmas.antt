@@ -9,7 +9,7 @@ use Rattle.dr_plan.specs.Views.{truth_view}
 use Rattle.dr_plan.specs.declared.expression.Truth.{Truth}
 use Rattle.dr_scalar.specs.Tests.{all_true}
 use Rattle.dr_scalar.proofs.ConditionLemmas.{kept_by_all}
-use Rattle.dr_mean.specs.Chains.{expressions_chain}
+use Rattle.dr_paths.specs.Chains.{expressions_chain}
 
 -- what is kept by all of some tests
 pub kept_by_tests : (ls : List Leaf) (ts : List Truth) (n : Node) → length ts ≢ 0

@@ -1,7 +1,3 @@
--- lengths of chains
-pub mod ChainLemmas
--- levels of operands
-pub mod OperandLemmas
 -- conditions of several tests
 pub mod ConditionLemmas
 -- the values in slots

@@ -1,5 +1,3 @@
--- the chains of a plan's expressions
-pub mod Chains
 -- the condition of a plan
 pub mod Condition
 -- rows of records of a schema

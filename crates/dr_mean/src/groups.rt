@@ -6,14 +6,13 @@ ghost use Rattle.dr_plan.specs.Planned.{Planned};
 ghost use Rattle.dr_group.specs.Partials.{IsPartialOf, HasTaken};
 ghost use Rattle.dr_mean.specs.GroupPuts.{PutsValues, PutsAggregate, PutsAggregates, PutsOfRecord, left_put, record_put, records_put, projection, HaveTypes};
 
-use crate::chains::{expression_chain, keys_chain};
 use crate::grouping::Grouping;
 use crate::keeping::keep;
 use crate::taking::{Taking, put_rows};
 use dr_group::Partial;
 use dr_memory::NoMemory;
 use dr_nested::{Node, project};
-use dr_paths::longer;
+use dr_paths::{expression_chain, keys_chain, longer};
 use dr_plan::{Aggregate, Expr};
 use dr_rows::{Rows, rows_of};
 use std::alloc::Global;

@@ -9,9 +9,9 @@ ghost use Rattle.dr_scalar.specs.Tests.{all_true};
 ghost use Rattle.dr_mean.specs.RowsOf.{IsTyped, OverRows};
 ghost use Rattle.dr_mean.specs.Condition.{plan_kept, plan_tests};
 
-use crate::chains::tests_chain;
 use dr_memory::NoMemory;
 use dr_nested::{Node, Step};
+use dr_paths::tests_chain;
 use dr_plan::Plan;
 use dr_rows::{Rows, prune, rows_of};
 use dr_scalar::passes;

@@ -1,7 +1,6 @@
 //! What a plan means on records, computed record by record: the reference of all that answers queries.
 #![tactic(auto)]
 
-mod chains;
 mod grouping;
 mod groups;
 mod items;
@@ -14,7 +13,6 @@ mod objects;
 mod taking;
 mod values;
 
-pub use chains::{expression_chain, keys_chain, tests_chain};
 pub use keeping::keep;
 pub use keys::key_of;
 pub use laws::{groups_take_records, lines_are_result, record_is_put_row_by_row};

@@ -9,12 +9,12 @@ ghost use Rattle.dr_group.specs.Views.{accumulator_view};
 ghost use Rattle.dr_mean.specs.RowsOf.{OverValues};
 ghost use Rattle.dr_mean.specs.ObjectCells.{Gathers, within_cells, OverWithin, CellsJoin};
 
-use crate::chains::expression_chain;
 use dr_cells::Cells;
 use dr_group::{Accumulator, Gathering};
 use dr_levels::ValueRef;
 use dr_memory::NoMemory;
 use dr_nested::Path;
+use dr_paths::expression_chain;
 use dr_plan::{Expr, Fold, Within};
 use dr_rows::{Row, Rows, rows_within};
 use dr_scalar::eval;

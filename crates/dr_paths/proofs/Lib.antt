@@ -10,3 +10,7 @@ pub mod LeavesOnce
 pub mod UsedLemmas
 -- what is kept, and what is at places
 pub mod ListLemmas
+-- the longest of several chains
+pub mod LongestLemmas
+-- the chains of expressions with two operands
+pub mod OperandLemmas

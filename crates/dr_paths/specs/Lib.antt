@@ -8,3 +8,5 @@ pub mod Related
 pub mod Numbers
 -- how often a leaf is among the leaves of a query
 pub mod LeavesLaws
+-- the chains of a plan's expressions
+pub mod Chains

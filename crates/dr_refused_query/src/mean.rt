@@ -11,9 +11,10 @@ ghost use Rattle.dr_partials.specs.Partials as partials;
 ghost use Rattle.dr_meaning.specs.Expression as meant;
 
 use dr_group::Partial;
-use dr_mean::{expression_chain, keys_chain, partial_of};
+use dr_mean::partial_of;
 use dr_memory::NoMemory;
 use dr_nested::{Node, Path, Step};
+use dr_paths::{expression_chain, keys_chain};
 use dr_plan::{Expr, Plan};
 use std::alloc::Global;
 

@@ -4,9 +4,6 @@ pub mod PlacedLemmas
 pub mod StripingLemmas
 -- the fields of a result
 pub mod FieldLemmas
--- the chains of expressions
-pub mod ChainLemmas
-pub mod OperandLemmas
 -- the kinds of a plan's terms
 pub mod KindLemmas
 -- the names that items need

@@ -1,9 +1,8 @@
 -- What a walk's answers say of records: by the course's laws.
 use Rattle.std.proofs.Common.{◌≡◌, ◌≢◌, ◌⊎◌, inl, inr, ℕ, zero, suc, ◌≤◌, List, [], ◌∷◌, ◌++◌, map, length, Bool, true, false, ◌&&◌, Option, Some, None, refl, sym, ap, ap₂, subst, ◌∙◌, append-nil, length-append, arith, true≢false}
-use Rattle.std.specs.Prelude.{◌==◌, nat_lt, if◌then◌else◌, is_some, option_map}
+use Rattle.std.specs.Prelude.{nat_lt, if◌then◌else◌, is_some, option_map}
 use Rattle.dr_nested.specs.Views.{kind_view}
 use Rattle.std.specs.List.{list_all, slice_get}
-use Rattle.std.proofs.lemmas.Bool.Decides.{nat_tests}
 use Rattle.dr_meaning.specs.Schema.{Fields}
 use Rattle.dr_meaning.specs.Path.{Step, Leaf, is_leaf_path}
 use Rattle.dr_meaning.specs.Record.{Node}
@@ -16,11 +15,11 @@ use Rattle.dr_moves.specs.Leading.{Left, Leads, columns_of, has_columns, head_of
 use Rattle.dr_moves.specs.Selection.{all_differ}
 use Rattle.dr_moves.proofs.LeadingLemmas.{leads_taken, records_lead, led_to_records, walk_columns}
 use Rattle.dr_moves.proofs.NestingOfTurns.{moves_nest}
-use Rattle.std.proofs.Common.{Result, Ok, Err}
+use Rattle.std.proofs.Common.{Ok, Err}
 use Rattle.dr_levels.specs.Views.{levels_pair}
 use Rattle.dr_levels.specs.declared.triplet.Levels.{Levels}
 use Rattle.dr_walk.specs.declared.fault.AssembleFault.{AssembleFault}
-use Rattle.dr_walk.specs.Walking.{HasColumns, NoneHas, IsAtLevels, ComesNext, Ends, Stuck, Gave, Goes, next_levels, given_leaf, leaf_moves, moves_over, behind_moves, HasLevels, is_fit, fits_next, WantsNext}
+use Rattle.dr_walk.specs.Walking.{HasColumns, NoneHas, IsAtLevels, ComesNext, Ends, Stuck, Goes, next_levels, leaf_moves, moves_over, behind_moves, HasLevels, is_fit, fits_next, WantsNext}
 use Rattle.dr_walk.specs.declared.level_move.LevelMove.{LevelMove}
 use Rattle.dr_walk.specs.declared.level_walk.LevelWalk.{LevelWalk}
 

@@ -1,5 +1,5 @@
 -- A walk over batches of columns: what is at hand of them, and what a call leaves.
-use Rattle.std.proofs.Common.{◌≡◌, ◌≢◌, ◌⊎◌, inl, inr, ℕ, suc, ◌+◌, ◌-◌, ◌^◌, ◌≤◌, min, List, [], ◌∷◌, ◌++◌, length, map, drop, Bool, true, false, Option, Some, None, refl, sym, ap, ap₂, subst, ◌∙◌, append-nil, true≢false, arith, Result, Ok, Err}
+use Rattle.std.proofs.Common.{◌≡◌, ◌≢◌, ℕ, ◌≤◌, List, [], ◌∷◌, ◌++◌, length, map, drop, Bool, true, false, Option, Some, None, refl, sym, ap, subst, ◌∙◌, append-nil, true≢false, arith, Ok, Err}
 use Rattle.std.specs.Prelude.{not, ◌==◌, if◌then◌else◌, option_map, is_some}
 use Rattle.std.specs.List.{list_all}
 use Rattle.std.proofs.lemmas.Bool.{eqb-true}
@@ -17,7 +17,7 @@ use Rattle.dr_levels.specs.declared.moves.Move.{Move as CodeMove}
 use Rattle.dr_moves.specs.Course.{course}
 use Rattle.dr_moves.specs.Turning.{between}
 use Rattle.dr_moves.specs.Leading.{Left, head_of, tail_of}
-use Rattle.dr_walk.specs.Walking.{HasColumns, NoneHas, is_known, then_wanted, IsAtLevels, ComesNext, leaf_of, given_leaf, WantsNext, next_levels, leaf_moves, moves_over, behind_moves, HasLevels, fits_next, is_fit}
+use Rattle.dr_walk.specs.Walking.{HasColumns, NoneHas, is_known, then_wanted, IsAtLevels, ComesNext, given_leaf, WantsNext, next_levels, leaf_moves, moves_over, behind_moves, HasLevels, fits_next, is_fit}
 use Rattle.dr_walk.specs.Checking.{rest_behind}
 use Rattle.dr_walk.specs.Batches.{IsOver, ComesOf, IsGivenOf, GoesOver, Shrinks}
 use Rattle.dr_walk.specs.declared.batches.Turned.{Turned}

@@ -1,14 +1,14 @@
 -- A walk over columns of which so much is left: what is left behind a call.
-use Rattle.std.proofs.Common.{◌≡◌, ◌≢◌, ◌⊎◌, inl, inr, ℕ, zero, suc, ◌+◌, ◌-◌, ◌^◌, ◌≤◌, min, List, [], ◌∷◌, ◌++◌, map, length, take, drop, get_or, Bool, true, false, ◌&&◌, Option, Some, None, refl, sym, ap, ap₂, subst, ◌∙◌, append-nil, true≢false, eq-eqb, arith, Result, Ok, Err, slice_set, ◌<◌}
+use Rattle.std.proofs.Common.{◌≡◌, ◌≢◌, ◌⊎◌, inl, inr, ℕ, zero, suc, ◌+◌, ◌-◌, ◌^◌, ◌≤◌, min, List, [], ◌∷◌, ◌++◌, map, length, get_or, Bool, true, false, ◌&&◌, Option, Some, None, refl, sym, ap, ap₂, subst, ◌∙◌, append-nil, true≢false, eq-eqb, arith, Result, Ok, Err, slice_set, ◌<◌}
 use Rattle.std.specs.Prelude.{not, ◌==◌, nat_lt, if◌then◌else◌, option_map, is_some, IfOk, IsErrOf, IsErrAnd}
 use Rattle.std.proofs.lemmas.Bool.{eqb-true, ne_eqb}
 use Rattle.std.proofs.lemmas.Bool.Decides.{nat_tests}
-use Rattle.std.proofs.lemmas.List.{get_or_past, get_or-map, length-map, drop_all, take_all}
+use Rattle.std.proofs.lemmas.List.{get_or_past, get_or-map, length-map}
 use Rattle.dr_meaning.specs.Schema.{Fields}
 use Rattle.dr_meaning.specs.Path.{Step}
 use Rattle.dr_meaning.specs.Record.{Node}
 use Rattle.dr_meaning.specs.Column.{Triplet}
-use Rattle.dr_meaning.specs.Walk.{Move, walk}
+use Rattle.dr_meaning.specs.Walk.{Move}
 use Rattle.dr_levels.specs.Views.{triplet_view, triplets_view, move_view}
 use Rattle.dr_levels.specs.Columns.{Gives}
 use Rattle.dr_levels.specs.declared.triplet.Triplet.{Triplet as CodeTriplet}
@@ -19,8 +19,7 @@ use Rattle.dr_moves.specs.Turning.{between}
 use Rattle.dr_moves.specs.Leading.{Left, head_of, tail_of, columns_of}
 use Rattle.dr_walk.specs.Walking.{HasColumns, NoneHas, first_wanted, is_known, wanted_behind, then_wanted, leaf_of}
 use Rattle.dr_walk.specs.Valued.{IsAt, Wants, Comes, moves_of, left_behind}
-use Rattle.dr_walk.specs.Checking.{rest_at, rest_behind, next_at, untaken, IsOn, Advances}
-use Rattle.dr_walk.specs.declared.column_walk.Advance.{Advance}
+use Rattle.dr_walk.specs.Checking.{rest_at, rest_behind, next_at, untaken, IsOn, StandsOver, Advances}
 use Rattle.dr_walk.specs.declared.fault.AssembleFault.{AssembleFault}
 use Rattle.dr_walk.specs.declared.walk.Walk.{Walk}
 use Rattle.dr_walk.proofs.WalkLemmas.{is_known_by, known_is, not_known, known_before, unknown_before, left_past, one_more}
@@ -152,26 +151,23 @@ Answer = Result (Option CodeMove) AssembleFault
 pub ok_on : (P : Option CodeMove → Type 0) (r : Answer) (m : Option CodeMove) → r ≡ Ok m → IfOk r P → P m
 ok_on P r m e h = subst (λ (x : Answer). IfOk x P) e h
 
--- nothing was given: it goes on, or it is at its end
-pub ends_where : (fs : Fields) (F : List (List Step)) (C : List (List Triplet)) (rows : ℕ) (ms : List Move) (w : Walk) (rests : List Triplets) (b : Bool) → not b ≡ is_some w.levels.wanted → b ≡ true
-    → (w.levels.wanted ≡ None → (R : List Node) × HasColumns fs F C rows R × (walk fs F R ≡ ms)) → Advances fs F C rows ms w rests (Ok Advance.Ended)
-ends_where fs F C rows ms w rests b e t h = by_wanted w.levels.wanted refl
+-- a move was given: it goes on
+pub gave_where : (fs : Fields) (F : List (List Step)) (C : List (List Triplet)) (rows : ℕ) (ms : List Move) (w : Walk) (rests : List Triplets) → IsOn fs F C rows ms w rests → Advances fs F C rows w rests (Ok false)
+gave_where fs F C rows ms w rests on = (ms, on)
+
+-- none was given: it goes on, or it is at its end
+pub none_where : (fs : Fields) (F : List (List Step)) (C : List (List Triplet)) (rows : ℕ) (ms : List Move) (w : Walk) (rests : List Triplets) (b : Bool) → not b ≡ is_some w.levels.wanted
+    → IsOn fs F C rows ms w rests → (w.levels.wanted ≡ None → (R : List Node) × HasColumns fs F C rows R) → Advances fs F C rows w rests (Ok b)
+none_where fs F C rows ms w rests true e on h = by_wanted w.levels.wanted refl
   where
-    by_wanted : (o : Option ℕ) → w.levels.wanted ≡ o → (R : List Node) × HasColumns fs F C rows R × (walk fs F R ≡ ms)
+    by_wanted : (o : Option ℕ) → w.levels.wanted ≡ o → (R : List Node) × HasColumns fs F C rows R
     by_wanted None q = h q
-    by_wanted (Some i) q = absurd (true≢false (sym (sym (ap not t) ∙ e ∙ ap is_some q)))
+    by_wanted (Some i) q = absurd (true≢false (sym (e ∙ ap is_some q)))
+none_where fs F C rows ms w rests false e on h = (ms, on)
 
-pub heard_where : (fs : Fields) (F : List (List Step)) (C : List (List Triplet)) (rows : ℕ) (ms : List Move) (w : Walk) (rests : List Triplets) → IsOn fs F C rows (ms ++ []) w rests → Advances fs F C rows ms w rests (Ok Advance.Heard)
-heard_where fs F C rows ms w rests on = subst (λ (ns : List Move). IsOn fs F C rows ns w rests) (append-nil ms) on
-
--- a leaf's move is of one of the leaves
-pub gave_where : (fs : Fields) (F : List (List Step)) (C : List (List Triplet)) (rows : ℕ) (ms : List Move) (w : Walk) (rests : List Triplets) (m : CodeMove) (o : Option ℕ) → IsOn fs F C rows (ms ++ move_view m ∷ []) w rests → Wants (Some m) o w.levels.wanted
-    → Advances fs F C rows ms w rests (Ok (Advance.Gave m))
-gave_where fs F C rows ms w rests m o on n = (on, λ i e. on.at.levels.wants i (n.1 ∙ e))
-
-pub fails_with : (fs : Fields) (F : List (List Step)) (C : List (List Triplet)) (rows : ℕ) (ms : List Move) (w : Walk) (rests : List Triplets) (f : AssembleFault) → (f ≡ AssembleFault.BadData → NoneHas fs F C rows) → Advances fs F C rows ms w rests (Err f)
-fails_with fs F C rows ms w rests AssembleFault.BadData h = h refl
-fails_with fs F C rows ms w rests AssembleFault.NoMemory h = tt
+pub fails_with : (fs : Fields) (F : List (List Step)) (C : List (List Triplet)) (rows : ℕ) (w : Walk) (rests : List Triplets) (f : AssembleFault) → (f ≡ AssembleFault.BadData → NoneHas fs F C rows) → Advances fs F C rows w rests (Err f)
+fails_with fs F C rows w rests AssembleFault.BadData h = h refl
+fails_with fs F C rows w rests AssembleFault.NoMemory h = tt
 
 -- ---- the beginning
 
@@ -234,35 +230,17 @@ one_taken rs k x t l e i = by_same (i == k) refl
     by_same true q = let z : i ≡ k = eqb-true i k q in ap (rest_at (slice_set rs k x)) z ∙ set_here rs k x l ∙ sym (ap tail_of e) ∙ sym (ap (λ (j : ℕ). tail_of (rest_at rs j)) z)
     by_same false q = set_there rs k i x (λ z. true≢false (sym (eq-eqb i k z) ∙ q))
 
--- a slice of a vector, written back into it
-pub written_back : {A : Type 0} (xs ys : List A) (n : ℕ) → length xs ≡ length ys → n ≡ length ys → take n (xs ++ drop (length xs) ys) ≡ xs
-written_back {A} xs ys n e f =
-    let none : drop (length xs) ys ≡ [] = drop_all (length xs) ys (omega (arith, e)) in
-    ap (λ (zs : List A). take n (xs ++ zs)) none ∙ ap (take n) (append-nil xs) ∙ take_all n xs (omega (arith, e, f))
-
 -- ---- by what an answer is
 
--- what is said of a call by what it answers: it goes on behind some moves
-abbrev pub StandsOver : Fields → List (List Step) → List (List Triplet) → ℕ → Walk → List Triplets → Type 0
-StandsOver fs F C rows w rests = (ms : List Move) × IsOn fs F C rows ms w rests
+pub stands_where : (fs : Fields) (F : List (List Step)) (C : List (List Triplet)) (rows : ℕ) (w : Walk) (rests : List Triplets) (r : Result Bool AssembleFault) (b : Bool) → r ≡ Ok b → b ≡ false → Advances fs F C rows w rests r → StandsOver fs F C rows w rests
+stands_where fs F C rows w rests r b e q h = subst (Advances fs F C rows w rests) (e ∙ ap Ok q) h
 
-pub heard_on : (fs : Fields) (F : List (List Step)) (C : List (List Triplet)) (rows : ℕ) (ms : List Move) (w : Walk) (rests : List Triplets) (r : Result Advance AssembleFault) → r ≡ Ok Advance.Heard → Advances fs F C rows ms w rests r → StandsOver fs F C rows w rests
-heard_on fs F C rows ms w rests r e h = (ms, subst (Advances fs F C rows ms w rests) e h)
+pub ended_has : (fs : Fields) (F : List (List Step)) (C : List (List Triplet)) (rows : ℕ) (w : Walk) (rests : List Triplets) (r : Result Bool AssembleFault) (b : Bool) → r ≡ Ok b → b ≡ true → Advances fs F C rows w rests r → (R : List Node) × HasColumns fs F C rows R
+ended_has fs F C rows w rests r b e q h = subst (Advances fs F C rows w rests) (e ∙ ap Ok q) h
 
-pub gave_on : (fs : Fields) (F : List (List Step)) (C : List (List Triplet)) (rows : ℕ) (ms : List Move) (w : Walk) (rests : List Triplets) (r : Result Advance AssembleFault) (m : CodeMove) → r ≡ Ok (Advance.Gave m) → Advances fs F C rows ms w rests r → StandsOver fs F C rows w rests
-gave_on fs F C rows ms w rests r m e h = let x = subst (Advances fs F C rows ms w rests) e h in (ms ++ move_view m ∷ [], x.0)
-
-pub heard_or_gave : (fs : Fields) (F : List (List Step)) (C : List (List Triplet)) (rows : ℕ) (ms : List Move) (w : Walk) (rests : List Triplets) (a : Advance)
-    → (a ≡ Advance.Heard) ⊎ ((m : CodeMove) × (a ≡ Advance.Gave m)) → Advances fs F C rows ms w rests (Ok a) → StandsOver fs F C rows w rests
-heard_or_gave fs F C rows ms w rests a (inl e) h = heard_on fs F C rows ms w rests (Ok a) (ap Ok e) h
-heard_or_gave fs F C rows ms w rests a (inr (m, e)) h = gave_on fs F C rows ms w rests (Ok a) m (ap Ok e) h
-
-pub ended_has : (fs : Fields) (F : List (List Step)) (C : List (List Triplet)) (rows : ℕ) (ms : List Move) (w : Walk) (rests : List Triplets) (r : Result Advance AssembleFault) → r ≡ Ok Advance.Ended → Advances fs F C rows ms w rests r → (R : List Node) × HasColumns fs F C rows R
-ended_has fs F C rows ms w rests r e h = let x = subst (Advances fs F C rows ms w rests) e h in (x.0, x.1)
-
-pub none_where : (fs : Fields) (F : List (List Step)) (C : List (List Triplet)) (rows : ℕ) (ms : List Move) (w : Walk) (rests : List Triplets) (r : Result Advance AssembleFault) (f : AssembleFault) → r ≡ Err f → f ≡ AssembleFault.BadData
-    → Advances fs F C rows ms w rests r → NoneHas fs F C rows
-none_where fs F C rows ms w rests r f e q h = subst (Advances fs F C rows ms w rests) (e ∙ ap Err q) h
+pub bad_where : (fs : Fields) (F : List (List Step)) (C : List (List Triplet)) (rows : ℕ) (w : Walk) (rests : List Triplets) (r : Result Bool AssembleFault) (f : AssembleFault) → r ≡ Err f → f ≡ AssembleFault.BadData
+    → Advances fs F C rows w rests r → NoneHas fs F C rows
+bad_where fs F C rows w rests r f e q h = subst (Advances fs F C rows w rests) (e ∙ ap Err q) h
 
 -- a refusal that is handed on
 pub bad_handed : {T : Type 0} (r : Result T AssembleFault) (f : AssembleFault) → IsErrAnd r (λ x. x ≡ f) → IsErrOf r AssembleFault.BadData → f ≡ AssembleFault.BadData

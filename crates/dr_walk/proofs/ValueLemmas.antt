@@ -1,15 +1,14 @@
 -- A walk over columns with their values: what it keeps, and what it gives of a walk by levels.
-use Rattle.std.proofs.Common.{◌≡◌, ◌≢◌, ◌⊎◌, inl, inr, ℕ, zero, suc, ◌+◌, ◌-◌, ◌*◌, ◌^◌, ◌≤◌, ◌<◌, min, List, [], ◌∷◌, ◌++◌, length, get_or, Bool, true, false, Option, Some, None, refl, sym, ap, ap₂, subst, ◌∙◌, append-nil, true≢false, arith, Result, Ok, Err}
-use Rattle.std.specs.Prelude.{not, ◌==◌, nat_lt, if◌then◌else◌, option_map, replicate, IfOk, IsErrOf}
-use Rattle.std.specs.List.{list_all}
+use Rattle.std.proofs.Common.{◌≡◌, ◌≢◌, ℕ, zero, suc, ◌+◌, ◌-◌, ◌*◌, ◌^◌, ◌≤◌, ◌<◌, min, List, [], ◌∷◌, ◌++◌, length, get_or, Bool, true, false, Option, Some, None, refl, sym, ap, ap₂, subst, ◌∙◌, append-nil, true≢false, arith, Result, Ok, Err}
+use Rattle.std.specs.Prelude.{nat_lt, option_map, replicate, IfOk, IsErrOf}
 use Rattle.std.proofs.lemmas.Bool.{ne_eqb}
 use Rattle.std.proofs.lemmas.Bool.Decides.{nat_tests}
 use Rattle.std.proofs.lemmas.List.{get_or_past}
 use Rattle.dr_meaning.specs.Schema.{Fields}
-use Rattle.dr_meaning.specs.Path.{Step, Leaf, is_leaf_path}
-use Rattle.dr_meaning.specs.Record.{Node, Value}
+use Rattle.dr_meaning.specs.Path.{Step}
+use Rattle.dr_meaning.specs.Record.{Node}
 use Rattle.dr_meaning.specs.Column.{Triplet, triplet}
-use Rattle.dr_meaning.specs.Walk.{Move, enter, value, leave, walk}
+use Rattle.dr_meaning.specs.Walk.{Move, value, walk}
 use Rattle.dr_nested.specs.Views.{kind_view}
 use Rattle.dr_levels.specs.Views.{levels_pair, triplet_levels, triplet_view, move_view, lent_value}
 use Rattle.dr_levels.specs.declared.triplet.Levels.{Levels}
@@ -21,14 +20,14 @@ use Rattle.dr_moves.specs.Course.{course}
 use Rattle.dr_moves.specs.Turning.{between}
 use Rattle.dr_moves.specs.Leading.{Left, head_of, columns_of, behind_move}
 use Rattle.dr_walk.specs.Standing.{fits}
-use Rattle.dr_walk.specs.Walking.{HasColumns, NoneHas, first_wanted, wanted_behind, then_wanted, is_known, IsAtLevels, ComesNext, leaf_of, given_leaf, WantsNext, next_levels, leaf_moves, moves_over, behind_moves, HasLevels, fits_next, is_fit}
+use Rattle.dr_walk.specs.Walking.{HasColumns, NoneHas, first_wanted, then_wanted, is_known, IsAtLevels, ComesNext, WantsNext, leaf_moves, moves_over, behind_moves, HasLevels, fits_next, is_fit}
 use Rattle.dr_walk.specs.Valued.{meant_value, kept_value, IsKept, IsAt, Comes, given_move, Wants, moves_of, left_behind, IsKeptFor, IsGiven, IsValued, HasForm}
 use Rattle.dr_walk.specs.declared.fault.AssembleFault.{AssembleFault}
 use Rattle.dr_walk.specs.declared.level_move.LevelMove.{LevelMove}
 use Rattle.dr_walk.specs.declared.level_walk.LevelWalk.{LevelWalk}
 use Rattle.dr_walk.specs.declared.walk.Walk.{Walk}
 use Rattle.dr_walk.proofs.KnownLemmas.{known_after}
-use Rattle.dr_walk.proofs.WalkLemmas.{none_of, nothing_there, left_past, not_known, known_one, one_more}
+use Rattle.dr_walk.proofs.WalkLemmas.{nothing_there, left_past, not_known, known_one, one_more}
 
 -- ---- the beginning
 

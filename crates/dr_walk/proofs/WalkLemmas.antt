@@ -1,6 +1,6 @@
 -- A walk over columns by their levels: what it knows, what it takes, what it gives.
 use Rattle.std.proofs.Common.{◌≡◌, ◌≢◌, ◌⊎◌, inl, inr, ℕ, zero, suc, ◌+◌, ◌-◌, ◌^◌, ◌<◌, ◌≤◌, min, List, [], ◌∷◌, ◌++◌, length, get_or, Bool, true, false, ◌&&◌, Option, Some, None, refl, sym, ap, ap₂, subst, ◌∙◌, append-nil, true≢false, arith}
-use Rattle.std.specs.Prelude.{not, ◌==◌, nat_lt, if◌then◌else◌, option_map, replicate, IfOk}
+use Rattle.std.specs.Prelude.{not, ◌==◌, nat_lt, if◌then◌else◌, option_map, replicate}
 use Rattle.std.proofs.lemmas.List.{get_or_past, get_or-replicate, length-replicate}
 use Rattle.std.proofs.lemmas.Bool.{eqb-true, ne_eqb, ltb-true}
 use Rattle.std.proofs.lemmas.Bool.Decides.{nat_tests}

@@ -1,22 +1,19 @@
 -- A walk over columns of which so much is left.
-use Rattle.std.specs.Prelude.{◌≡◌, ◌<◌, ℕ, ⊤, List, [], ◌∷◌, ◌++◌, map, length, Bool, true, false, ◌==◌, if◌then◌else◌, Option, Some, None, is_some, get_or, Result, Ok, Err}
+use Rattle.std.specs.Prelude.{◌≡◌, ℕ, ⊤, List, [], map, Bool, true, false, ◌==◌, if◌then◌else◌, Option, Some, None, get_or, Result, Ok, Err}
 use Rattle.std.specs.List.{list_all}
 use Rattle.dr_meaning.specs.Schema.{Fields}
-use Rattle.dr_meaning.specs.Path.{Step, Leaf, is_leaf_path}
+use Rattle.dr_meaning.specs.Path.{Step, is_leaf_path}
 use Rattle.dr_meaning.specs.Record as record_tree
 use Rattle.dr_meaning.specs.Column.{Triplet}
-use Rattle.dr_meaning.specs.Walk.{Move, walk, no_record}
-use Rattle.dr_meaning.specs.WalkLaws.{open_after_moves}
-use Rattle.dr_levels.specs.Views.{triplets_view, move_view}
+use Rattle.dr_meaning.specs.Walk.{Move}
+use Rattle.dr_levels.specs.Views.{triplets_view}
 use Rattle.dr_levels.specs.declared.triplets.Triplets.{Triplets}
 use Rattle.dr_moves.specs.Leading.{Left, head_of, tail_of}
 use Rattle.dr_moves.specs.Selection.{all_differ}
-use Rattle.dr_walk.specs.Walking.{HasColumns, NoneHas, is_known, leaf_of}
+use Rattle.dr_walk.specs.Walking.{HasColumns, NoneHas, is_known}
 use Rattle.dr_walk.specs.Valued.{IsAt}
 use Rattle.dr_walk.specs.declared.fault.AssembleFault.{AssembleFault}
 use Rattle.dr_walk.specs.declared.walk.Walk.{Walk}
-use Rattle.dr_walk.specs.declared.column_walk.Advance.{Advance}
-use Rattle.dr_walk.specs.declared.column_walk.ColumnWalk.{ColumnWalk}
 
 -- what is left of a leaf's column
 abbrev pub rest_at : List Triplets → ℕ → List Triplet
@@ -43,25 +40,18 @@ pub record IsOn (fs : Fields) (F : List (List Step)) (C : List (List Triplet)) (
   pub at : IsAt fs F rows C ms left w
   pub rest : (i : ℕ) → rest_at rests i ≡ untaken (is_known w.levels.wanted w.levels.given i) (left i)
 
--- it has given these moves of so many records with these columns
-abbrev pub HasGiven : Fields → List (List Step) → List (List Triplet) → ℕ → List Move → ColumnWalk → Type 0
-HasGiven fs F C rows ms w = IsOn fs F C rows ms w.walk w.rests.items
+-- a walk over these columns that gave some moves
+abbrev pub StandsOver : Fields → List (List Step) → List (List Triplet) → ℕ → Walk → List Triplets → Type 0
+StandsOver fs F C rows w rests = (ms : List Move) × IsOn fs F C rows ms w rests
 
--- the walk goes on over them; or it gives a move, whose leaf, if it is a leaf's, is one of them; or it comes to its end over columns that records
--- have, whose walk it gave; or no records have them
-abbrev pub Advances : Fields → List (List Step) → List (List Triplet) → ℕ → List Move → Walk → List Triplets → Result Advance AssembleFault → Type 0
-Advances fs F C rows ms w rests (Ok Advance.Heard) = IsOn fs F C rows ms w rests
-Advances fs F C rows ms w rests (Ok (Advance.Gave m)) = IsOn fs F C rows (ms ++ move_view m ∷ []) w rests × ((i : ℕ) → leaf_of m ≡ Some i → i < length F)
-Advances fs F C rows ms w rests (Ok Advance.Ended) = (R : List record_tree.Node) × HasColumns fs F C rows R × (walk fs F R ≡ ms)
-Advances fs F C rows ms w rests (Err AssembleFault.BadData) = NoneHas fs F C rows
-Advances fs F C rows ms w rests (Err AssembleFault.NoMemory) = ⊤
-
--- a move that is given nests on those before it
-abbrev pub NestsOn : Fields → List Leaf → List Move → Result Advance AssembleFault → Type 0
-NestsOn fs L ms (Ok (Advance.Gave m)) = is_some (open_after_moves fs L no_record (ms ++ move_view m ∷ [])) ≡ true
-NestsOn fs L ms r = ⊤
+-- the walk is at its end over columns that records have; or it goes on over them; or no records have them
+abbrev pub Advances : Fields → List (List Step) → List (List Triplet) → ℕ → Walk → List Triplets → Result Bool AssembleFault → Type 0
+Advances fs F C rows w rests (Ok true) = (R : List record_tree.Node) × HasColumns fs F C rows R
+Advances fs F C rows w rests (Ok false) = StandsOver fs F C rows w rests
+Advances fs F C rows w rests (Err AssembleFault.BadData) = NoneHas fs F C rows
+Advances fs F C rows w rests (Err AssembleFault.NoMemory) = ⊤
 
 -- what is said of a call, over any columns over which the walk stood
-abbrev pub OverGiven : Walk → List Triplets → (Fields → List (List Step) → List (List Triplet) → ℕ → List Move → Type 0) → Type 0
-OverGiven w rests says = (fs : Fields) (F : List (List Step)) (C : List (List Triplet)) (rows : ℕ) (ms : List Move) → list_all (is_leaf_path fs) F ≡ true → all_differ F ≡ true
-    → IsOn fs F C rows ms w rests → says fs F C rows ms
+abbrev pub OverStanding : Walk → List Triplets → (Fields → List (List Step) → List (List Triplet) → ℕ → Type 0) → Type 0
+OverStanding w rests says = (fs : Fields) (F : List (List Step)) (C : List (List Triplet)) (rows : ℕ) → list_all (is_leaf_path fs) F ≡ true → all_differ F ≡ true
+    → StandsOver fs F C rows w rests → says fs F C rows

@@ -9,10 +9,10 @@ ghost use Rattle.dr_walk.specs.declared.fault.AssembleFault.{AssembleFault};
 ghost use Rattle.dr_walk.specs.declared.batches.Turned.{Turned as MeantTurned};
 ghost use Rattle.dr_walk.specs.Batches.{is_last, IsGivenOf, GoesOver, Shrinks, NestsOver, OverBatches, OverComing};
 
-use crate::column_walk::take_next;
 use crate::fault::AssembleFault;
 use crate::level_move::LevelMove;
 use crate::level_walk::LevelWalk;
+use crate::taking::take_next;
 use crate::values::fits;
 use dr_levels::{Levels, Move, Triplets};
 

@@ -3,7 +3,6 @@
 
 mod batches;
 mod checking;
-mod column_walk;
 mod counting;
 mod course;
 mod fault;
@@ -15,13 +14,13 @@ mod level_move;
 mod level_walk;
 mod picks;
 mod spot;
+mod taking;
 mod turn;
 mod values;
 mod walk;
 
 pub use batches::{Turned, step_over};
 pub use checking::check_columns;
-pub use column_walk::{Advance, ColumnWalk};
 pub use counting::count_repeated;
 pub use fault::AssembleFault;
 pub use level_move::LevelMove;

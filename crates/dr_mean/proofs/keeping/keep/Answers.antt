@@ -7,7 +7,7 @@ use Rattle.dr_nested.specs.Views.{node_view}
 use Rattle.dr_plan.specs.Planned.{plan_leaves}
 use Rattle.dr_rows.proofs.PruningLemmas.{not_empty}
 use Rattle.dr_scalar.specs.Tests.{all_true}
-use Rattle.dr_mean.specs.Chains.{expressions_chain}
+use Rattle.dr_paths.specs.Chains.{expressions_chain}
 use Rattle.dr_mean.specs.Condition.{plan_tests}
 use Rattle.dr_mean.proofs.ConditionLemmas.{kept_by_tests}
 use Rattle.dr_mean.proofs.keeping.keep.Goals as goal

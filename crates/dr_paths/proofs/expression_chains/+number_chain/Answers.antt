@@ -3,8 +3,8 @@ use Rattle.dr_meaning.specs.Expression.{expression_chain}
 use Rattle.dr_plan.specs.declared.expression.Number as numbers
 use Rattle.dr_nested.specs.PathView.{path_view}
 use Rattle.dr_plan.specs.Views.{number_view}
-use Rattle.dr_sub.proofs.OperandLemmas.{of_operands, level-add, level-subtract, level-multiply}
-use Rattle.dr_sub.proofs.chains.+number_chain.Goals as goal
+use Rattle.dr_paths.proofs.OperandLemmas.{of_operands, level-add, level-subtract, level-multiply}
+use Rattle.dr_paths.proofs.expression_chains.+number_chain.Goals as goal
 
 pub returns-in-Add : goal.returns-in-Add
 returns-in-Add t c =

@@ -5,7 +5,7 @@ use Rattle.dr_meaning.specs.Expression.{paths_of, longest_chain}
 use Rattle.dr_nested.specs.PathView.{step_view, path_view}
 use Rattle.dr_plan.specs.Views.{truth_view}
 use Rattle.dr_plan.specs.declared.expression.Truth.{Truth}
-use Rattle.dr_mean.proofs.chains.tests_chain.Given as goal
+use Rattle.dr_paths.proofs.expression_chains.tests_chain.Given as goal
 
 -- the longest of these and of those from this test on
 abbrev pub invariant-tests : goal.invariant-tests

@@ -12,7 +12,7 @@ use Rattle.dr_plan.specs.declared.expression.TextOf as texts
 use Rattle.dr_plan.specs.declared.expression.TextOf.TheVariants as text_variants
 use Rattle.dr_plan.specs.declared.expression.Truth as truths
 use Rattle.dr_plan.specs.declared.expression.Truth.TheVariants as truth_variants
-use Rattle.dr_mean.proofs.ChainLemmas.{chain_of_both}
+use Rattle.dr_paths.proofs.LongestLemmas.{chain_of_both}
 
 -- the longer of the operands' levels
 pub of_operands : (e a b : Expression) (p q r : List Step) → expression_chain e ≡ longer (expression_chain a) (expression_chain b) → p ≡ expression_chain a → q ≡ expression_chain b → r ≡ longer p q → r ≡ expression_chain e

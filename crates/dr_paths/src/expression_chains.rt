@@ -6,10 +6,10 @@ ghost use Rattle.dr_meaning.specs.Expression as meant;
 ghost use Rattle.dr_meaning.specs.Path as path_meaning;
 ghost use Rattle.dr_nested.specs.PathView.{step_view, path_view};
 ghost use Rattle.dr_plan.specs.Views.{expr_view, number_view, path_of, text_view, truth_view};
-ghost use Rattle.dr_mean.specs.Chains.{expressions_chain};
+ghost use Rattle.dr_paths.specs.Chains.{expressions_chain};
 
+use crate::chains::{chain_end, longer};
 use dr_nested::{Path, Step};
-use dr_paths::{chain_end, longer};
 use dr_plan::{Expr, Number, TextOf, Truth};
 
 fn leaf_chain(leaves: &[Path], leaf: u32) -> &[Step]
@@ -21,7 +21,7 @@ fn leaf_chain(leaves: &[Path], leaf: u32) -> &[Step]
     }
 }
 
-#[tactic(auto, using(crate::proofs::ChainLemmas::chain_of_both))]
+#[tactic(auto, using(crate::proofs::LongestLemmas::chain_of_both))]
 fn number_chain<'p>(leaves: &'p [Path], number: &Number) -> &'p [Step]
     ensures { map step_view result.now ≡ meant.expression_chain (number_view (map path_view leaves.now) number.now) }
 {
@@ -41,7 +41,7 @@ fn number_chain<'p>(leaves: &'p [Path], number: &Number) -> &'p [Step]
     }
 }
 
-#[tactic(auto, using(crate::proofs::ChainLemmas::chain_of_both))]
+#[tactic(auto, using(crate::proofs::LongestLemmas::chain_of_both))]
 fn text_chain<'p>(leaves: &'p [Path], text: &TextOf) -> &'p [Step]
     ensures { map step_view result.now ≡ meant.expression_chain (text_view (map path_view leaves.now) text.now) }
 {
@@ -52,7 +52,7 @@ fn text_chain<'p>(leaves: &'p [Path], text: &TextOf) -> &'p [Step]
     }
 }
 
-#[tactic(auto, using(crate::proofs::ChainLemmas::chain_of_both))]
+#[tactic(auto, using(crate::proofs::LongestLemmas::chain_of_both))]
 fn truth_chain<'p>(leaves: &'p [Path], truth: &Truth) -> &'p [Step]
     ensures { map step_view result.now ≡ meant.expression_chain (truth_view (map path_view leaves.now) truth.now) }
 {

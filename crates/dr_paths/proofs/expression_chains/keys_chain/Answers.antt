@@ -7,8 +7,8 @@ use Rattle.dr_meaning.specs.Path.{chain_end}
 use Rattle.dr_meaning.specs.Expression.{longest_chain}
 use Rattle.dr_nested.specs.PathView.{step_view, path_view}
 use Rattle.dr_plan.specs.Views.{path_of}
-use Rattle.dr_mean.proofs.ChainLemmas.{level_more, level_all, level_start, longer_end}
-use Rattle.dr_mean.proofs.chains.keys_chain.Goals as goal
+use Rattle.dr_paths.proofs.LongestLemmas.{level_more, level_all, level_start, longer_end}
+use Rattle.dr_paths.proofs.expression_chains.keys_chain.Goals as goal
 
 pub keys-init : goal.keys-init
 keys-init c = level_start (λ (k : ℕ). path_of (slice_get (map path_view c.args.leaves.now) k) ∷ []) c.args.keys.now

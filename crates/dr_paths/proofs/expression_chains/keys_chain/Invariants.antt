@@ -5,7 +5,7 @@ use Rattle.dr_meaning.specs.Path.{longer}
 use Rattle.dr_meaning.specs.Expression.{longest_chain}
 use Rattle.dr_nested.specs.PathView.{step_view, path_view}
 use Rattle.dr_plan.specs.Views.{path_of}
-use Rattle.dr_mean.proofs.chains.keys_chain.Given as goal
+use Rattle.dr_paths.proofs.expression_chains.keys_chain.Given as goal
 
 -- the longest of these and of those from this key on
 abbrev pub invariant-keys : goal.invariant-keys

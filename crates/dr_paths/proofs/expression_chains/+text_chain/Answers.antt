@@ -3,8 +3,8 @@ use Rattle.dr_meaning.specs.Expression.{expression_chain}
 use Rattle.dr_plan.specs.declared.expression.TextOf as texts
 use Rattle.dr_nested.specs.PathView.{path_view}
 use Rattle.dr_plan.specs.Views.{text_view}
-use Rattle.dr_sub.proofs.OperandLemmas.{of_operands, level-join}
-use Rattle.dr_sub.proofs.chains.+text_chain.Goals as goal
+use Rattle.dr_paths.proofs.OperandLemmas.{of_operands, level-join}
+use Rattle.dr_paths.proofs.expression_chains.+text_chain.Goals as goal
 
 pub returns-in-Join : goal.returns-in-Join
 returns-in-Join t c =

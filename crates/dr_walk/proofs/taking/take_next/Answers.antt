@@ -2,7 +2,7 @@ use Rattle.std.proofs.Common.{rules, ◌≡◌, ◌<◌, ℕ, length, get_or, sl
 use Rattle.dr_levels.specs.Views.{triplet_view, triplets_view}
 use Rattle.dr_walk.specs.Checking.{rest_at, rest_behind}
 use Rattle.dr_walk.proofs.CheckingLemmas.{rest_here, one_taken}
-use Rattle.dr_walk.proofs.column_walk.take_next.Goals as goal
+use Rattle.dr_walk.proofs.taking.take_next.Goals as goal
 
 pub returns-clause-rests : goal.returns-clause-rests
 returns-clause-rests c =

@@ -4,8 +4,8 @@ use Rattle.dr_meaning.specs.Expression.{paths_of, longest_chain}
 use Rattle.dr_nested.specs.PathView.{step_view, path_view}
 use Rattle.dr_plan.specs.Views.{truth_view}
 use Rattle.dr_plan.specs.declared.expression.Truth.{Truth}
-use Rattle.dr_mean.proofs.ChainLemmas.{level_more, level_all, level_start}
-use Rattle.dr_mean.proofs.chains.tests_chain.Goals as goal
+use Rattle.dr_paths.proofs.LongestLemmas.{level_more, level_all, level_start}
+use Rattle.dr_paths.proofs.expression_chains.tests_chain.Goals as goal
 
 pub tests-init : goal.tests-init
 tests-init c = level_start (λ (t : Truth). paths_of (truth_view (map path_view c.args.leaves.now) t)) c.args.tests.now

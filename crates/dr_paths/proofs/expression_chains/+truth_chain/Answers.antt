@@ -3,8 +3,8 @@ use Rattle.dr_meaning.specs.Expression.{expression_chain}
 use Rattle.dr_plan.specs.declared.expression.Truth as truths
 use Rattle.dr_nested.specs.PathView.{path_view}
 use Rattle.dr_plan.specs.Views.{number_view, text_view, truth_view}
-use Rattle.dr_sub.proofs.OperandLemmas.{of_operands, level-and, level-or, level-truths, level-numbers, level-texts}
-use Rattle.dr_sub.proofs.chains.+truth_chain.Goals as goal
+use Rattle.dr_paths.proofs.OperandLemmas.{of_operands, level-and, level-or, level-truths, level-numbers, level-texts}
+use Rattle.dr_paths.proofs.expression_chains.+truth_chain.Goals as goal
 
 pub returns-in-And : goal.returns-in-And
 returns-in-And t c =
