@@ -80,6 +80,13 @@ held_joined bound xs ys whole k x y w z h j e f g s =
     (one_joined bound (accumulators_view xs) (accumulators_view ys) whole k (accumulator_view x) (accumulator_view y) (accumulator_view w) (accumulator_view z)
     (omega (arith, h, length-map xs accumulator_view)) (seen_at xs k x h e) (seen_at ys k y j f) g s))
 
+-- the same of lists that are equal to these
+pub equal_joined : (bound : ℕ) (us xs vs ys : List Accumulator) (whole : List meant.Accumulator) (k : ℕ) → us ≡ xs → vs ≡ ys → EachJoined bound (accumulators_view xs) (accumulators_view ys) whole k
+    → EachJoined bound (accumulators_view us) (accumulators_view vs) whole k
+equal_joined bound us xs vs ys whole k e f s =
+    subst (λ (some : List Accumulator). EachJoined bound (accumulators_view some) (accumulators_view vs) whole k) (sym e)
+    (subst (λ (some : List Accumulator). EachJoined bound (accumulators_view xs) (accumulators_view some) whole k) (sym f) s)
+
 -- ---- at both ends
 
 as_long : (xs ys : List meant.Accumulator) → join_all (take (length ys) xs) ys ≡ join_all xs ys

@@ -30,6 +30,8 @@ pub mod RowLemmas
 pub mod PartialLemmas
 -- the partial of rows without keys
 pub mod RowPartialLemmas
+-- elements that are read and written through a slice
+pub mod PlaceLemmas
 -- accumulators of two groups
 pub mod JoinLemmas
 -- merging from the fronts

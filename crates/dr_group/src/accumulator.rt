@@ -26,6 +26,13 @@ pub enum Accumulator {
     Greatest(Option<Value>),
 }
 
+/// That of rows, of which there are none.
+impl Default for Accumulator {
+    fn default() -> Accumulator {
+        Accumulator::Count(0)
+    }
+}
+
 impl Accumulator {
     /// Of no values.
     pub fn new(gathering: Gathering) -> Accumulator

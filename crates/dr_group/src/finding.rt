@@ -3,7 +3,7 @@
 ghost use Rattle.std.specs.Prelude.{◌≡◌, ◌<◌, IfOk, IfSome, OnOk, Some, map, length, true, false};
 ghost use Rattle.dr_group.specs.Views.{lent_cell};
 ghost use Rattle.dr_group.specs.Groups.{group_view};
-ghost use Rattle.dr_group.specs.Chains.{hashes_of};
+ghost use Rattle.dr_group.specs.Chains.{bucket_of, hashes_of, head_of};
 ghost use Rattle.dr_group.specs.Distinct.{IsFound, group_hashes};
 ghost use Rattle.dr_group.specs.Finding.{IsIndexed, IsReady};
 ghost use Rattle.dr_group.specs.Hashes.{tuple_hash};
@@ -122,14 +122,29 @@ impl GroupMap {
         Ok(())
     }
 
-    /// The number of the group of a key tuple, if there is one, by its hash.
+    /// The number of the group of a key tuple, if there is one, by its hash. The first group of the chain, which most
+    /// often is the one, is looked at before any link.
     #[inline]
     fn find(&self, hash: u64, key: &[Option<ValueRef<'_>>]) -> Option<usize>
         requires ready { IsIndexed self.now }
         requires hash { hash ≡ tuple_hash (map lent_cell key.now) }
         ensures { IsFound (map lent_cell key.now) (map group_view (self.now).groups.items) result }
     {
-        let mut rest = self.index.heads[self.index.bucket(hash)];
+        let head = self.index.heads[self.index.bucket(hash)];
+        if head > 0 && self.is_at(head as usize - 1, key) {
+            return Some(head as usize - 1);
+        }
+        self.follow(head, hash, key)
+    }
+
+    /// The number of the group of a key tuple, if there is one, along the chain of its hash, from the head on.
+    fn follow(&self, head: u32, hash: u64, key: &[Option<ValueRef<'_>>]) -> Option<usize>
+        requires ready { IsIndexed self.now }
+        requires hash { hash ≡ tuple_hash (map lent_cell key.now) }
+        requires head { head ≡ head_of (self.now).index.heads.items (bucket_of (self.now).index.heads.items hash) }
+        ensures { IsFound (map lent_cell key.now) (map group_view (self.now).groups.items) result }
+    {
+        let mut rest = head;
         'chain: while rest > 0 {
             let number = rest as usize - 1;
             let link = self.index.links[number];

@@ -11,13 +11,20 @@ use crate::gathering::Gathering;
 use dr_levels::ValueRef;
 use dr_memory::NoMemory;
 use dr_nested::Value;
+use smallvec::SmallVec;
 use std::alloc::Global;
+
+/// The cells of a key tuple. One lies where the group does; more have an allocation of their own.
+pub type Cells = SmallVec<Option<Value>, 1>;
+
+/// What the aggregates have gathered. Two lie where the group does; more have an allocation of their own.
+pub type Accumulators = SmallVec<Accumulator, 2>;
 
 /// A group: its key tuple, and what each aggregate has gathered.
 #[derive(Drop)]
 pub struct Group {
-    pub keys: Vec<Option<Value>>,
-    pub accumulators: Vec<Accumulator>,
+    pub keys: Cells,
+    pub accumulators: Accumulators,
 }
 
 /// A value, or NULL, for one of the aggregates, by its number.
@@ -34,7 +41,7 @@ pub struct Taken<'a> {
 pub fn take_into(
     alloc: Global,
     gatherings: &[Gathering],
-    accumulators: &mut Vec<Accumulator>,
+    accumulators: &mut Accumulators,
     taken: Option<Taken<'_>>,
 ) -> Result<(), NoMemory>
     ensures { TakesInto gatherings.now taken.entry (accumulators.old).items (accumulators.new).items result }
@@ -70,13 +77,10 @@ pub fn new_group(
 }
 
 /// The accumulators of a group without rows.
-pub fn empty_accumulators(
-    alloc: Global,
-    gatherings: &[Gathering],
-) -> Result<Vec<Accumulator>, NoMemory>
+pub fn empty_accumulators(alloc: Global, gatherings: &[Gathering]) -> Result<Accumulators, NoMemory>
     ensures { IfOk result (λ v. accumulators_view v.items ≡ map empty_of gatherings.now) }
 {
-    let mut accumulators = Vec::with_capacity(alloc, gatherings.len())?;
+    let mut accumulators = SmallVec::with_capacity(alloc, gatherings.len())?;
     'gatherings: for gathering in gatherings {
         accumulators.push(Accumulator::new(*gathering))?;
     }
@@ -88,11 +92,11 @@ pub fn accumulators_of_rows(
     alloc: Global,
     gatherings: &[Gathering],
     rows: u64,
-) -> Result<Vec<Accumulator>, NoMemory>
+) -> Result<Accumulators, NoMemory>
     ensures { IfOk result (λ v. accumulators_view v.items
         ≡ map (gathered_of_rows rows) (map gathering_view gatherings.now)) }
 {
-    let mut accumulators = Vec::with_capacity(alloc, gatherings.len())?;
+    let mut accumulators = SmallVec::with_capacity(alloc, gatherings.len())?;
     'gatherings: for gathering in gatherings {
         accumulators.push(Accumulator::of_rows(*gathering, rows))?;
     }
@@ -100,13 +104,10 @@ pub fn accumulators_of_rows(
 }
 
 /// A key tuple of its own.
-pub fn held_keys(
-    alloc: Global,
-    key: &[Option<ValueRef<'_>>],
-) -> Result<Vec<Option<Value>>, NoMemory>
+pub fn held_keys(alloc: Global, key: &[Option<ValueRef<'_>>]) -> Result<Cells, NoMemory>
     ensures { IfOk result (λ v. map cell_view v.items ≡ map lent_cell key.now) }
 {
-    let mut keys = Vec::with_capacity(alloc, key.len())?;
+    let mut keys = SmallVec::with_capacity(alloc, key.len())?;
     'cells: for cell in key {
         keys.push(held_cell(alloc, *cell)?)?;
     }

@@ -10,6 +10,7 @@ ghost use Rattle.dr_group.specs.Maps.{gatherings_view, tuples_view, groups_in, P
 
 use crate::accumulator::Accumulator;
 use crate::gathering::Gathering;
+use crate::group::Accumulators;
 use crate::group_map::GroupMap;
 use dr_levels::ValueRef;
 use dr_memory::NoMemory;
@@ -65,7 +66,7 @@ impl Accumulator {
 fn take_integer_into(
     alloc: Global,
     gatherings: &[Gathering],
-    accumulators: &mut Vec<Accumulator>,
+    accumulators: &mut Accumulators,
     aggregate: u32,
     integer: Option<i64>,
 ) -> Result<(), NoMemory>

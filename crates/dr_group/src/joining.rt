@@ -9,6 +9,7 @@ ghost use Rattle.dr_group.specs.Views.{accumulator_view, cell_view};
 ghost use Rattle.dr_group.specs.Groups.{accumulators_view};
 
 use crate::accumulator::Accumulator;
+use crate::group::Accumulators;
 use crate::orders::value_order;
 use dr_levels::ValueRef;
 use dr_nested::Value;
@@ -130,7 +131,7 @@ fn is_larger(mine: &Option<Value>, theirs: &Option<Value>) -> bool
 }
 
 /// Joins the accumulators of two groups, one with one; what has no partner is dropped.
-pub fn join_each(mine: &mut Vec<Accumulator>, theirs: &mut Vec<Accumulator>)
+pub fn join_each(mine: &mut Accumulators, theirs: &mut Accumulators)
     requires mine { AllCanBeOf (2 ^ 60) (accumulators_view (mine.old).items) }
     requires theirs { AllCanBeOf (2 ^ 60) (accumulators_view (theirs.old).items) }
     ensures { accumulators_view (mine.new).items

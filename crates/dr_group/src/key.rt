@@ -10,18 +10,19 @@ ghost use Rattle.dr_partials.proofs.ValueOrders.{tuple_order_total};
 ghost use Rattle.dr_group.specs.Views.{lent_cell, cell_view};
 ghost use Rattle.dr_group.specs.Keys.{key_view, key_order};
 
-use crate::group::{held_cell, held_keys};
+use crate::group::{Cells, held_cell, held_keys};
 use crate::orders::held_order;
 use dr_levels::ValueRef;
 use dr_memory::NoMemory;
 use dr_nested::Value;
+use smallvec::SmallVec;
 use std::alloc::Global;
 use std::cmp::Ordering;
 
 /// A key tuple of its own. Keys are ordered as key tuples are.
 #[derive(Drop)]
 pub struct Key {
-    pub cells: Vec<Option<Value>>,
+    pub cells: Cells,
 }
 
 impl Key {
@@ -41,7 +42,7 @@ impl Key {
     pub fn copied(alloc: Global, key: &[Option<Value>]) -> Result<Key, NoMemory>
         ensures { IfOk result (λ k. key_view k ≡ map cell_view key.now) }
     {
-        let mut cells = Vec::with_capacity(alloc, key.len())?;
+        let mut cells = SmallVec::with_capacity(alloc, key.len())?;
         'cells: for cell in key {
             cells.push(held_cell(alloc, cell.as_ref().map(ValueRef::of))?)?;
         }

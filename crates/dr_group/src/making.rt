@@ -15,6 +15,7 @@ use crate::hints::Hints;
 use crate::index::Index;
 use dr_memory::NoMemory;
 use dr_plan::{Aggregate, GroupItem, GroupTerm};
+use smallvec::SmallVec;
 use std::alloc::Global;
 
 impl GroupMap {
@@ -32,7 +33,7 @@ impl GroupMap {
     {
         let mut groups = Vec::new(alloc);
         if !has_keys {
-            let keys = Vec::new(alloc);
+            let keys = SmallVec::new(alloc);
             let accumulators = empty_accumulators(alloc, &gatherings)?;
             groups.push(Group { keys, accumulators })?;
         }
@@ -58,7 +59,7 @@ impl GroupMap {
             ≡ keyless_group (map (gathered_of_rows rows) (map gathering_view gatherings.items)) ∷ []) }
         ensures gatherings { IfOk result (λ m. gatherings_view m ≡ map gathering_view gatherings.items) }
     {
-        let keys = Vec::new(alloc);
+        let keys = SmallVec::new(alloc);
         let accumulators = accumulators_of_rows(alloc, &gatherings, rows)?;
         let mut groups = Vec::new(alloc);
         groups.push(Group { keys, accumulators })?;

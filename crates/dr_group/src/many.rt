@@ -12,6 +12,7 @@ ghost use Rattle.dr_group.specs.Maps.{groups_view, gatherings_view, tuples_view}
 
 use crate::accumulator::Accumulator;
 use crate::gathering::Gathering;
+use crate::group::Accumulators;
 use crate::group_map::GroupMap;
 use dr_levels::Triplets;
 use dr_memory::NoMemory;
@@ -67,7 +68,7 @@ impl Accumulator {
 fn take_many_into(
     alloc: Global,
     gatherings: &[Gathering],
-    accumulators: &mut Vec<Accumulator>,
+    accumulators: &mut Accumulators,
     aggregate: u32,
     many: Many<'_>,
 ) -> Result<(), NoMemory>

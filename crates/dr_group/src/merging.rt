@@ -11,6 +11,7 @@ use crate::group::Group;
 use crate::joining::join_each;
 use crate::turn::{Turn, next_turn};
 use dr_memory::NoMemory;
+use smallvec::SmallVec;
 use std::alloc::Global;
 use std::mem;
 
@@ -46,8 +47,8 @@ fn take_group(alloc: Global, groups: &mut Vec<Group>, number: usize) -> Group
     ensures left { (g : Group) × ((groups.new).items ≡ slice_set (groups.old).items number g) }
 {
     let empty = Group {
-        keys: Vec::new(alloc),
-        accumulators: Vec::new(alloc),
+        keys: SmallVec::new(alloc),
+        accumulators: SmallVec::new(alloc),
     };
     mem::replace(&mut groups[number], empty)
 }

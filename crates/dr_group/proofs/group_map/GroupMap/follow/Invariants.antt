@@ -2,7 +2,7 @@ use Rattle.std.proofs.Common.{map}
 use Rattle.dr_group.specs.Views.{lent_cell}
 use Rattle.dr_group.specs.Chains.{bucket_of}
 use Rattle.dr_group.proofs.FindLemmas.{OnTheWay}
-use Rattle.dr_group.proofs.group_map.GroupMap.find.Given as goal
+use Rattle.dr_group.proofs.group_map.GroupMap.follow.Given as goal
 
 -- none of the groups behind the rest of the chain has the key tuple
 abbrev pub invariant-chain : goal.invariant-chain
