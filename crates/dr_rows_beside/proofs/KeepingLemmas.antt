@@ -13,7 +13,7 @@ use Rattle.dr_agreement.proofs.OutlinedLemmas.{column_of}
 use Rattle.dr_beside.specs.Neighbours.{column_at}
 use Rattle.dr_beside.specs.Spreading.{repetitions_of, next_of, rest_of, spread_over}
 use Rattle.dr_rows_beside.specs.declared.judging.Test.{Test}
-use Rattle.dr_agreement.specs.Cuts.{repetitions}
+use Rattle.dr_levels.specs.Apart.{repetitions}
 use Rattle.dr_rows_beside.specs.Bits.{each_and}
 use Rattle.dr_rows_beside.specs.Rows.{source_view, run}
 use Rattle.dr_rows_beside.specs.Answers.{holds_in}

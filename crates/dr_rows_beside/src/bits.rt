@@ -3,7 +3,8 @@
 ghost use Rattle.std.specs.Prelude.{◌≡◌, ◌≤◌, ◌+◌, ◌++◌, length, take, replicate, if◌then◌else◌, vec_len, vec_capacity};
 ghost use Rattle.std.specs.Prelude.{true, false, IfOk};
 ghost use Rattle.dr_beside.specs.Spreading.{next_of, rest_of, spread_over};
-ghost use Rattle.dr_agreement.specs.Cuts.{repetitions, begins};
+ghost use Rattle.dr_agreement.specs.Cuts.{begins};
+ghost use Rattle.dr_levels.specs.Apart.{repetitions};
 ghost use Rattle.dr_rows_beside.specs.Bits.{many, each_and, gathered, set_bits};
 
 use dr_levels::Levels;

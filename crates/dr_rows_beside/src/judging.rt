@@ -7,7 +7,8 @@ ghost use Rattle.dr_nested.specs.PathView.{paths_view};
 ghost use Rattle.dr_plan.specs.declared.expression.Truth.{Truth};
 ghost use Rattle.dr_scalar.specs.Leaves.{greatest, truth_leaves};
 ghost use Rattle.dr_rows_beside.specs.Sources.{is_numbered};
-ghost use Rattle.dr_agreement.specs.Cuts.{repetitions, begins};
+ghost use Rattle.dr_agreement.specs.Cuts.{begins};
+ghost use Rattle.dr_levels.specs.Apart.{repetitions};
 ghost use Rattle.dr_rows_beside.specs.Judging.{AreGathered, CanAnswer, CanAnswerEach, narrowed, narrowed_by};
 
 use crate::answers::put_answers;

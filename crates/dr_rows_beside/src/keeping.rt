@@ -2,7 +2,8 @@
 
 ghost use Rattle.std.specs.Prelude.{◌≡◌, ◌≤◌, ◌<◌, length, map, true, IfOk};
 ghost use Rattle.dr_levels.specs.Views.{triplets_view};
-ghost use Rattle.dr_agreement.specs.Cuts.{repetitions, begins};
+ghost use Rattle.dr_agreement.specs.Cuts.{begins};
+ghost use Rattle.dr_levels.specs.Apart.{repetitions};
 ghost use Rattle.dr_nested.specs.PathView.{paths_view};
 ghost use Rattle.dr_rows_beside.specs.Bits.{set_bits};
 ghost use Rattle.dr_rows_beside.specs.Judging.{CanAnswer, CanAnswerEach};

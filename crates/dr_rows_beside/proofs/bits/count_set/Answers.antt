@@ -1,7 +1,7 @@
 use Rattle.std.proofs.Common.{◌≡◌, ◌<◌, ◌≤◌, ◌+◌, ◌∙◌, ℕ, length, get_or, ap, arith, false}
 use Rattle.std.specs.Prelude.{if◌then◌else◌}
 use Rattle.std.proofs.lemmas.List.{take_all}
-use Rattle.dr_agreement.proofs.CutLemmas.{one_if}
+use Rattle.dr_levels.proofs.ApartLemmas.{one_if}
 use Rattle.dr_rows_beside.specs.Bits.{set_bits}
 use Rattle.dr_rows_beside.proofs.SpreadBitLemmas.{set_more, few_set}
 use Rattle.dr_rows_beside.proofs.bits.count_set.Goals as goal

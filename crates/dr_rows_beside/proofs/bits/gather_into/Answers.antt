@@ -2,9 +2,9 @@ use Rattle.std.proofs.Common.{◌≡◌, ◌<◌, ◌+◌, ◌∙◌, ℕ, lengt
 use Rattle.std.specs.Prelude.{nat_le, if◌then◌else◌}
 use Rattle.std.proofs.lemmas.List.{length-map, length-replicate}
 use Rattle.dr_levels.specs.declared.triplet.Levels.{Levels}
-use Rattle.dr_agreement.specs.Cuts.{repetitions}
+use Rattle.dr_levels.specs.Apart.{repetitions}
 use Rattle.dr_rows_beside.specs.Bits.{gathered}
-use Rattle.dr_agreement.proofs.CutLemmas.{repetition_at, one_if, at_most_one}
+use Rattle.dr_levels.proofs.ApartLemmas.{repetition_at, one_if, at_most_one}
 use Rattle.dr_rows_beside.proofs.BitLemmas.{first_counts, Gathers, gather_step}
 use Rattle.dr_rows_beside.proofs.bits.gather_into.Goals as goal
 

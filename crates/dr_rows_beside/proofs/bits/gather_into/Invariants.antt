@@ -1,6 +1,6 @@
 use Rattle.std.proofs.Common.{◌≡◌, ◌<◌, ◌≤◌, ◌-◌, ◌++◌, take, drop, get_or, false, length}
 use Rattle.std.specs.Prelude.{replicate}
-use Rattle.dr_agreement.specs.Cuts.{repetitions}
+use Rattle.dr_levels.specs.Apart.{repetitions}
 use Rattle.dr_rows_beside.specs.Bits.{gathered}
 use Rattle.dr_rows_beside.proofs.BitLemmas.{closed}
 use Rattle.dr_rows_beside.proofs.bits.gather_into.Given as goal

@@ -3,9 +3,9 @@ use Rattle.std.specs.Prelude.{nat_le, if◌then◌else◌}
 use Rattle.std.proofs.lemmas.List.{length-map}
 use Rattle.dr_levels.specs.declared.triplet.Levels.{Levels}
 use Rattle.dr_beside.specs.Spreading.{spread_over}
-use Rattle.dr_agreement.specs.Cuts.{repetitions}
+use Rattle.dr_levels.specs.Apart.{repetitions}
 use Rattle.dr_rows_beside.specs.Bits.{each_and}
-use Rattle.dr_agreement.proofs.CutLemmas.{repetition_at, one_if}
+use Rattle.dr_levels.proofs.ApartLemmas.{repetition_at, one_if}
 use Rattle.dr_rows_beside.proofs.BitLemmas.{many_within, many_more, first_counts, narrow_step, few_of}
 use Rattle.dr_rows_beside.proofs.bits.narrow.Goals as goal
 

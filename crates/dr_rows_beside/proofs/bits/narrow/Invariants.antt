@@ -1,6 +1,6 @@
 use Rattle.std.proofs.Common.{◌≡◌, ◌<◌, ◌-◌, ◌++◌, take, drop, get_or, false}
 use Rattle.dr_beside.specs.Spreading.{spread_over}
-use Rattle.dr_agreement.specs.Cuts.{repetitions}
+use Rattle.dr_levels.specs.Apart.{repetitions}
 use Rattle.dr_rows_beside.specs.Bits.{many, each_and}
 use Rattle.dr_rows_beside.proofs.bits.narrow.Given as goal
 

@@ -3,8 +3,8 @@ use Rattle.std.specs.Prelude.{nat_le, if◌then◌else◌}
 use Rattle.std.proofs.lemmas.List.{length-map}
 use Rattle.dr_levels.specs.declared.triplet.Levels.{Levels}
 use Rattle.dr_beside.specs.Spreading.{next_of, rest_of, spread_over}
-use Rattle.dr_agreement.specs.Cuts.{repetitions}
-use Rattle.dr_agreement.proofs.CutLemmas.{repetition_at}
+use Rattle.dr_levels.specs.Apart.{repetitions}
+use Rattle.dr_levels.proofs.ApartLemmas.{repetition_at}
 use Rattle.dr_rows_beside.proofs.SpreadBitLemmas.{spread_more, spread_ends}
 use Rattle.dr_rows_beside.proofs.bits.push_spread.Goals as goal
 

@@ -4,7 +4,7 @@ use Rattle.std.proofs.lemmas.List.{take_all}
 use Rattle.dr_levels.specs.Dense.{present}
 use Rattle.dr_levels.specs.declared.triplet.Levels.{Levels}
 use Rattle.dr_rows_beside.specs.Comparing.{placed}
-use Rattle.dr_agreement.proofs.CutLemmas.{one_if}
+use Rattle.dr_levels.proofs.ApartLemmas.{one_if}
 use Rattle.dr_rows_beside.proofs.ComparingLemmas.{Fills, fill_step, fill_ends, fill_starts, present_more}
 use Rattle.dr_rows_beside.proofs.comparing.place_back.Goals as goal
 

@@ -1,5 +1,5 @@
 use Rattle.std.proofs.Common.{arith}
-use Rattle.dr_agreement.specs.Cuts.{repetitions}
+use Rattle.dr_levels.specs.Apart.{repetitions}
 use Rattle.dr_rows_beside.proofs.JudgingLemmas.{gathered_more}
 use Rattle.dr_rows_beside.proofs.judging.gather_each.Goals as goal
 

@@ -1,4 +1,4 @@
-use Rattle.dr_agreement.specs.Cuts.{repetitions}
+use Rattle.dr_levels.specs.Apart.{repetitions}
 use Rattle.dr_rows_beside.specs.Judging.{AreGathered}
 use Rattle.dr_rows_beside.proofs.judging.gather_each.Given as goal
 

@@ -1,6 +1,6 @@
 use Rattle.std.proofs.Common.{map}
 use Rattle.dr_levels.specs.Views.{triplets_view}
-use Rattle.dr_agreement.specs.Cuts.{repetitions}
+use Rattle.dr_levels.specs.Apart.{repetitions}
 use Rattle.dr_rows_beside.proofs.JudgingLemmas.{can_answer_at, narrowed_more}
 use Rattle.dr_rows_beside.proofs.judging.take_tests.Goals as goal
 

@@ -1,6 +1,6 @@
 use Rattle.std.proofs.Common.{◌≡◌, map, take}
 use Rattle.dr_levels.specs.Views.{triplets_view}
-use Rattle.dr_agreement.specs.Cuts.{repetitions}
+use Rattle.dr_levels.specs.Apart.{repetitions}
 use Rattle.dr_rows_beside.specs.Judging.{narrowed_by}
 use Rattle.dr_rows_beside.proofs.judging.take_tests.Given as goal
 

@@ -1,6 +1,7 @@
 use Rattle.std.proofs.Common.{◌≡◌, ◌∙◌, ℕ, List, Bool, sym, ap, map, length, subst, arith}
 use Rattle.dr_levels.specs.Views.{triplets_view}
-use Rattle.dr_agreement.specs.Cuts.{repetitions, begins}
+use Rattle.dr_agreement.specs.Cuts.{begins}
+use Rattle.dr_levels.specs.Apart.{repetitions}
 use Rattle.dr_rows_beside.specs.Judging.{AreGathered, CanAnswer, CanAnswerEach}
 use Rattle.dr_rows_beside.specs.Keepings.{levels_of, judged}
 use Rattle.dr_rows_beside.proofs.KeepingLemmas.{levels_there, judged_long, levels_long, all_put, gathered_put}

@@ -2,7 +2,7 @@ use Rattle.std.proofs.Common.{◌≡◌, ◌∙◌, ℕ, List, Bool, map, length
 use Rattle.std.proofs.lemmas.Result.{IfOk-weaker}
 use Rattle.std.proofs.lemmas.List.{length-map}
 use Rattle.dr_levels.specs.Views.{triplets_view}
-use Rattle.dr_agreement.specs.Cuts.{repetitions}
+use Rattle.dr_levels.specs.Apart.{repetitions}
 use Rattle.dr_beside.specs.Neighbours.{column_at}
 use Rattle.dr_beside.specs.Spreading.{repetitions_of, spread_over}
 use Rattle.dr_rows_beside.specs.KeptBits.{bits_of, common_at}
