@@ -24,5 +24,7 @@ pub mod PutLemmas
 pub mod TreeLemmas
 -- the end of a tablet
 pub mod EndLemmas
+-- triplets copied
+pub mod CopyLemmas
 -- columns lent
 pub mod LentLemmas

@@ -19,7 +19,10 @@ use Rattle.dr_striper.proofs.AddedLemmas.{inside-adds}
 use Rattle.dr_striper.specs.declared.branch.Branch.{Branch}
 use Rattle.dr_striper.specs.Views.{twigs_view}
 use Rattle.dr_striper.specs.Back.{backs}
-use Rattle.dr_striper.proofs.BackLemmas.{stays}
+use Rattle.dr_levels.specs.declared.triplet.Levels.{Levels}
+use Rattle.std.specs.Prelude.{take}
+use Rattle.std.proofs.lemmas.List.{take_all}
+use Rattle.dr_striper.proofs.BackLemmas.{stays, front_stays}
 use Rattle.dr_striper.proofs.EndLemmas.{ends_same_is}
 use Rattle.dr_striper.proofs.PassingLemmas.{taken_joined}
 
@@ -114,3 +117,8 @@ pub back_columns : (fields : List Path) (L L' : List Triplet) (ss : Shapes) (bs 
 back_columns fields L L' ss bs now bs' m grows em el eb e =
     ap₂ (λ t u. columns_in (paths_view fields) t u) el (e ∙ eb ∙ ap (λ (j : ℕ). backs j bs) em)
     ∙ back-columns fields (leaves_of fields) L ss bs grows.1 grows
+
+-- the levels are those that were there before the last
+pub cut_last : (k : ℕ) (ls now after : List Levels) (x : Levels) → k ≡ length ls → now ≡ ls ++ x ∷ [] → after ≡ take k now → after ≡ ls
+cut_last k ls now after x ek en ea =
+    ea ∙ ap₂ take ek en ∙ front_stays (length ls) ls (x ∷ []) (omega arith) ∙ take_all (length ls) ls (omega arith)

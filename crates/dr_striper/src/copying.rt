@@ -3,6 +3,7 @@
 ghost use Rattle.std.specs.Prelude.{◌≡◌, IfOk};
 ghost use Rattle.dr_nested.specs.PathView.{paths_view};
 ghost use Rattle.dr_levels.specs.Views.{column_view, columns_view, column_form, forms_view, triplets_view, triplets_form};
+ghost use Rattle.dr_levels.specs.Columns.{Adds};
 ghost use Rattle.dr_striper.specs.Shapes.{AllTaken};
 ghost use Rattle.dr_striper.specs.Striping.{leaf_form, leaves_of, forms_of};
 ghost use Rattle.dr_striper.specs.Records.{columns_in};
@@ -17,6 +18,21 @@ use dr_levels::{Column, Levels, Triplets, ValuesRef};
 use dr_nested::{NoMemory, Path};
 use std::alloc::Global;
 
+/// Appends triplets to a column of the same leaf, which takes them.
+fn append_all(column: &mut Column, triplets: Triplets<'_>) -> Result<(), NoMemory>
+    requires form { column_form column.old ≡ triplets_form triplets }
+    requires taken { AllTaken (triplets_form triplets) (triplets_view triplets) }
+    ensures triplets { Adds (column_view column.old) (column_view column.new) (triplets_view triplets.entry) result }
+    ensures form { column_form column.new ≡ column_form column.old }
+{
+    let levels = triplets.levels();
+    match triplets.values() {
+        ValuesRef::Bools(values) => column.extend_bools(levels, values),
+        ValuesRef::Integers(values) => column.extend_integers(levels, values),
+        ValuesRef::Texts { bytes, places } => column.extend_texts(levels, bytes, places),
+    }
+}
+
 /// A column of triplets that a leaf takes.
 fn copied(alloc: Global, triplets: Triplets<'_>) -> Result<Column, NoMemory>
     requires { AllTaken (triplets_form triplets) (triplets_view triplets) }
@@ -24,12 +40,7 @@ fn copied(alloc: Global, triplets: Triplets<'_>) -> Result<Column, NoMemory>
     ensures form { IfOk result (λ c. column_form c ≡ triplets_form triplets.entry) }
 {
     let mut column = Column::new(alloc, triplets.kind(), triplets.greatest_definition());
-    let levels = triplets.levels();
-    match triplets.values() {
-        ValuesRef::Bools(values) => column.extend_bools(levels, values)?,
-        ValuesRef::Integers(values) => column.extend_integers(levels, values)?,
-        ValuesRef::Texts { bytes, places } => column.extend_texts(levels, bytes, places)?,
-    }
+    append_all(&mut column, triplets)?;
     Ok(column)
 }
 

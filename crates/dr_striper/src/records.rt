@@ -18,12 +18,6 @@ use crate::passing::stripe_group;
 use dr_levels::Levels;
 use dr_nested::{NoMemory, Path};
 
-/// The levels of a record as the instance of a group.
-const RECORD: Levels = Levels {
-    repetition: 0,
-    definition: 0,
-};
-
 /// Takes back the record that follows so many others.
 fn take_record_back(levels: &mut Vec<Levels>, branches: &mut [Branch], kept: usize)
     ensures levels { (levels.new).items ≡ take kept (levels.old).items }
@@ -50,7 +44,10 @@ pub(crate) fn stripe_record<H: Held>(
     ensures grows { Grows (leaves_of fields.now) (nulls levels.new.items) (shapes_view branches.new) (twigs_view branches.new) }
 {
     let kept = levels.len();
-    levels.push(RECORD)?;
+    levels.push(Levels {
+        repetition: 0,
+        definition: 0,
+    })?;
     match stripe_group::<H>(branches, kept, levels, held, 0, 0, 0) {
         Ok(()) => Ok(()),
         Err(NoMemory) => {
