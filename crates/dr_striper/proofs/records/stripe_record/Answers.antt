@@ -1,4 +1,4 @@
-use Rattle.std.proofs.Common.{◌≡◌, ◌∷◌, [], ◌++◌, ap, sym, ◌∙◌, None}
+use Rattle.std.proofs.Common.{◌≡◌, ◌∷◌, [], ◌++◌, length, ap, sym, ◌∙◌, None, arith}
 use Rattle.std.proofs.lemmas.List.{map-append, length-map}
 use Rattle.dr_meaning.specs.Column.{triplet}
 use Rattle.dr_striper.specs.Striping.{leaves_of}
@@ -33,13 +33,15 @@ returns-in-Ok-clause-grows g c =
 pub returns-in-Err-clause-columns : goal.returns-in-Err-clause-columns
 returns-in-Err-clause-columns g c =
     let old = c.args.levels.now.items in
-    let e : c.take_record_back.new.levels.items ≡ old = cut_last c.len-kept.result old c.push.new.self.items c.take_record_back.new.levels.items (record { repetition = 0; definition = 0 }) c.len-kept.ensures c.in_ok-push.ensures.items c.take_record_back.ensures.levels in
+    let n : c.len-kept.result ≡ length old = omega (arith, c.len-kept.ensures, c.args.levels.now.ok.0) in
+    let e : c.take_record_back.new.levels.items ≡ old = cut_last c.len-kept.result old c.push.new.self.items c.take_record_back.new.levels.items (record { repetition = 0; definition = 0 }) n c.in_ok-push.ensures.items c.take_record_back.ensures.levels in
     back_columns c.args.fields.now (nulls old) (nulls c.take_record_back.new.levels.items) (shapes_view c.args.branches.now) c.args.branches.now c.stripe_group.new.branches (twigs_view c.take_record_back.new.branches) c.len-kept.result
-    c.requires.grows (c.len-kept.ensures ∙ sym (length-map old null_of)) (ap nulls e) c.stripe_group.ensures.kept c.take_record_back.ensures.back
+    c.requires.grows (n ∙ sym (length-map old null_of)) (ap nulls e) c.stripe_group.ensures.kept c.take_record_back.ensures.back
 
 pub returns-in-Err-clause-grows : goal.returns-in-Err-clause-grows
 returns-in-Err-clause-grows g c =
     let old = c.args.levels.now.items in
-    let e : c.take_record_back.new.levels.items ≡ old = cut_last c.len-kept.result old c.push.new.self.items c.take_record_back.new.levels.items (record { repetition = 0; definition = 0 }) c.len-kept.ensures c.in_ok-push.ensures.items c.take_record_back.ensures.levels in
+    let n : c.len-kept.result ≡ length old = omega (arith, c.len-kept.ensures, c.args.levels.now.ok.0) in
+    let e : c.take_record_back.new.levels.items ≡ old = cut_last c.len-kept.result old c.push.new.self.items c.take_record_back.new.levels.items (record { repetition = 0; definition = 0 }) n c.in_ok-push.ensures.items c.take_record_back.ensures.levels in
     back_grows (leaves_of c.args.fields.now) (nulls old) (nulls c.take_record_back.new.levels.items) (shapes_view c.args.branches.now) (shapes_view c.take_record_back.new.branches) c.args.branches.now c.stripe_group.new.branches (twigs_view c.take_record_back.new.branches) c.len-kept.result
-    c.requires.grows (c.len-kept.ensures ∙ sym (length-map old null_of)) (ap nulls e) (c.take_record_back.ensures.shapes ∙ c.stripe_group.ensures.shapes) c.stripe_group.ensures.kept c.take_record_back.ensures.back
+    c.requires.grows (n ∙ sym (length-map old null_of)) (ap nulls e) (c.take_record_back.ensures.shapes ∙ c.stripe_group.ensures.shapes) c.stripe_group.ensures.kept c.take_record_back.ensures.back
