@@ -179,7 +179,7 @@ fn striped(
         stripe_line(alloc, schema, line, &mut striper)?;
         rows = rows.saturating_add(1);
     }
-    Ok((striper.finish(), rows))
+    Ok((striper.finish(alloc)?, rows))
 }
 
 /// A column's triplets.

@@ -60,14 +60,14 @@ pub(crate) fn fill_tablet<S: Source>(
         let more = records.stripe_next(source, &mut striper)?;
         if !more {
             return Ok(Filled {
-                columns: striper.finish(),
+                columns: striper.finish(alloc)?,
                 records: count,
                 ended: true,
             });
         }
     }
     Ok(Filled {
-        columns: striper.finish(),
+        columns: striper.finish(alloc)?,
         records: rows,
         ended: false,
     })

@@ -86,7 +86,7 @@ impl<'s> Kept<'s> {
         ensures none { OnOk result (IsKept (schema_view schema.now) [] self.new) }
     {
         let next = Striper::new(alloc, self.fields)?;
-        let columns = mem::replace(&mut self.striper, next).finish();
+        let columns = mem::replace(&mut self.striper, next).finish(alloc)?;
         let count = mem::replace(&mut self.count, 0);
         write_file_as(alloc, PageForm::V1, schema, &columns, u64::from(count))
     }

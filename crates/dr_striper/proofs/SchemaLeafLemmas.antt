@@ -5,7 +5,7 @@ use Rattle.std.proofs.lemmas.Bool.{and_from}
 use Rattle.dr_meaning.specs.Schema.{Repetition, Fields, no_fields, field, Shape, leaf, group}
 use Rattle.dr_meaning.specs.Path.{Step, Leaf, leaf_below, leaves_from, shape_leaves, leaves}
 use Rattle.dr_meaning.proofs.ProjectionLemmas.{step}
-use Rattle.dr_striper.specs.Leaves.{is_leaf_of, is_shape_leaf, is_leaf}
+use Rattle.dr_striper.specs.Leaves.{is_leaf_of, is_shape_leaf, is_leaf, OfSomeSchema}
 use Rattle.dr_striper.proofs.FoundLemmas.{same_repetition-itself, same_kind-itself}
 
 abbrev Each : (Leaf → Type 0) → List Leaf → Type 0
@@ -63,3 +63,6 @@ mutual
 -- each leaf of a schema is one of it, of its kind
 pub schema_leaves_are : (fs : Fields) → list_all (is_leaf fs) (leaves fs) ≡ true
 schema_leaves_are fs = each_passes (is_leaf fs) (leaves fs) (each_weaker (LeafFrom 0 fs) (λ l. is_leaf fs l ≡ true) (leaf_at_first fs) (leaves_from fs 0) (fields_kinds fs 0))
+
+pub leaves_of_schema : (fs : Fields) (ls : List Leaf) → ls ≡ leaves fs → OfSomeSchema ls
+leaves_of_schema fs ls e = (fs, ap (list_all (is_leaf fs)) e ∙ schema_leaves_are fs)

@@ -53,3 +53,7 @@ FoundLeavesHaveKinds = (text : List ℕ) (fs : Fields) (l : Leaf) → find_leaf 
 -- the leaves of a schema are leaves of it, of their kinds
 abbrev pub SchemaLeavesHaveKinds : Type 0
 SchemaLeavesHaveKinds = (fs : Fields) → list_all (is_leaf fs) (leaves fs) ≡ true
+
+-- leaves of one schema
+abbrev pub OfSomeSchema : List Leaf → Type 0
+OfSomeSchema ls = (fs : Fields) × (list_all (is_leaf fs) ls ≡ true)

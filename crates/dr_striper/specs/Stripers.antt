@@ -1,11 +1,12 @@
 -- What a striper holds, and how it changes.
-use Rattle.std.specs.Prelude.{◌≡◌, ℕ, List, [], ◌∷◌, take, Result, Ok, Err, Bool}
+use Rattle.std.specs.Prelude.{◌≡◌, List, Result, Ok, Err, Bool}
 use Rattle.std.specs.List.{list_all}
 use Rattle.dr_meaning.specs.Path.{Step, Leaf}
 use Rattle.dr_meaning.specs.Record.{Node, no_slots, Instance, atom, inner}
 use Rattle.dr_meaning.specs.Column.{Triplet, record_column}
 use Rattle.dr_memory.specs.declared.NoMemory.{NoMemory}
-use Rattle.dr_levels.specs.Views.{columns_view}
+use Rattle.dr_striper.specs.Records.{columns_in}
+use Rattle.dr_striper.specs.Views.{nulls, twigs_view}
 use Rattle.dr_levels.specs.Columns.{takes}
 use Rattle.dr_striper.specs.Striping.{gained, leaves_of, leaf_form}
 use Rattle.dr_striper.specs.declared.making.Striper.{Striper}
@@ -13,7 +14,7 @@ use Rattle.dr_nested.specs.PathView.{paths_view}
 
 -- the columns so far
 abbrev pub striped : Striper → List (List Triplet)
-striped s = columns_view s.columns.items
+striped s = columns_in (paths_view s.fields.now) (nulls s.levels.items) (twigs_view s.branches.items)
 
 -- its leaves
 abbrev pub striped_leaves : Striper → List Leaf
@@ -39,9 +40,3 @@ IsRecord x = x ≡ inner (record_in x)
 abbrev pub AddsRecord : Node → List (List Step) → List (List Triplet) → List (List Triplet) → Result (Unit {0}) NoMemory → Type 0
 AddsRecord n F before after (Ok done) = after ≡ gained (λ p. record_column p n) F before
 AddsRecord n F before after (Err e) = after ≡ before
-
--- the fronts of columns
-abbrev pub cut_to : List ℕ → List (List Triplet) → List (List Triplet)
-cut_to [] cs = []
-cut_to (n ∷ ns) [] = []
-cut_to (n ∷ ns) (c ∷ cs) = take n c ∷ cut_to ns cs

@@ -1,12 +1,21 @@
 //! Striping records into columns (Dremel 2010, section 4.1).
 #![tactic(auto)]
 
-mod dissection;
+mod branch;
+mod copying;
+mod cutting;
+mod ending;
+mod groups;
 mod held;
 mod inside;
 mod leaf_laws;
+mod leaves;
+mod lending;
 mod making;
 mod nodes;
+mod passing;
+mod planting;
+mod records;
 mod striper;
 
 pub use held::Held;

@@ -22,7 +22,7 @@ use dr_commands::MOST_STRIPED;
 use dr_commands::commands::Stripe;
 use dr_input::{InputFault, Records};
 use dr_levels::Column;
-use dr_nested::{Path, Schema, parse_schema};
+use dr_nested::{NoMemory, Path, Schema, parse_schema};
 use dr_outside::Source;
 use dr_print::column_text;
 use dr_striper::Striper;
@@ -30,12 +30,12 @@ use std::alloc::Global;
 use std::slice;
 
 /// The only column of a striper of one leaf.
-fn only_column(striper: Striper<'_>) -> Column
+fn only_column(alloc: Global, striper: Striper<'_>) -> Result<Column, NoMemory>
     requires { length (striped_leaves striper) ≡ 1 }
-    ensures { striped striper.entry ≡ column_view result ∷ [] }
+    ensures { IfOk result (λ c. striped striper.entry ≡ column_view c ∷ []) }
 {
-    match striper.finish().pop() {
-        Some(column) => column,
+    match striper.finish(alloc)?.pop() {
+        Some(column) => Ok(column),
         None => unreachable!(),
     }
 }
@@ -61,7 +61,7 @@ fn stripe_records<S: Source>(
     let mut striper = Striper::new(alloc, slice::from_ref(field))?;
     let mut records = Records::new(alloc, schema, MOST_STRIPED)?;
     'lines: while records.stripe_next(source, &mut striper)? {}
-    Ok(only_column(striper))
+    Ok(only_column(alloc, striper)?)
 }
 
 /// The text that `stripe` prints, of its file and the input.

@@ -19,6 +19,9 @@ use Rattle.dr_top.proofs.OutcomeLemmas.{err_is}
 use Rattle.dr_top.proofs.StripeLemmas.{more_columns, paths_from_leaves}
 use Rattle.dr_top.proofs.commands.stripe.stripe_records.Goals as goal
 
+pub new-striper-requires : goal.new-striper-requires
+new-striper-requires g c = (fields_view c.args.schema.now.fields.items, ap (λ b. b && true) c.requires)
+
 pub lines-init : goal.lines-init
 lines-init g c =
     let fs = fields_view c.args.schema.now.fields.items in
@@ -85,7 +88,7 @@ returns-clause-columns g c =
     let F = (path_view c.args.field.now).path ∷ [] in
     let left = (g.S.Source.shows c.args.source.now).left in
     let kept : striped c.stripe_next.new.striper ≡ striped c.lines.striper = c.in_ok-stripe_next.ensures.kept (ok_other c.in_ok-stripe_next.field-0 c.if-branch.false _ refl) in
-    subst (HasColumns fs F left) (sym kept ∙ c.only_column.ensures)
+    subst (HasColumns fs F left) (sym kept ∙ c.in_ok-only_column.ensures)
     (read_all fs most_striped (AreColumns F (striped c.lines.striper)) left (left_of c.lines.records (g.S.Source.shows c.lines.source).left) (left_of c.stripe_next.new.self (g.S.Source.shows c.stripe_next.new.source).left) (number_of c.lines.records)
     c.lines.invariant.has_read (c.in_ok-stripe_next.ensures.end c.if-branch.false))
 
