@@ -50,7 +50,7 @@ column-behind (s ∷ p) above more bs l w = twig-behind s.repetition p (column-b
 abbrev pub FieldAdded : Repetition → List Step → ℕ → ℕ → ℕ → List Triplet → Twig → Instances → Twig → Type 0
 FieldAdded k p level d r L b xs b' =
     (twig_column (column_in p) (L ++ triplet r d None ∷ []) b' ≡ twig_column (column_in p) L b
-        ++ spread (instance_column p (level + repetition_count k) (d + definition_count k)) (level + repetition_count k) d r xs)
+    ++ spread (instance_column p (level + repetition_count k) (d + definition_count k)) (level + repetition_count k) d r xs)
     × TwigLeads k p (Leads p) b' × TwigWithin (Within p) (suc (length L)) b'
 
 unchanged : (k : Repetition) (p : List Step) (level d r : ℕ) (L : List Triplet) (b : Twig) → TwigLeads k p (Leads p) b → TwigWithin (Within p) (length L) b → FieldAdded k p level d r L b no_instances b
@@ -66,10 +66,12 @@ leaf-adds : (k : Repetition) (level d r : ℕ) (L : List Triplet) (n : ℕ) (own
 leaf-adds k level d r L n own x xs =
     let m : ℕ = level + repetition_count k in
     let e : ℕ = d + definition_count k in
-    let front : List Triplet = grown n own L ++ triplet r e (value_of x) ∷ [] in
-    (all-seen L (values_added m e front xs) (triplet r d None) ∙ values-later m e front xs
-      ∙ append_assoc (grown n own L) (triplet r e (value_of x) ∷ []) (each_later (instance_column [] m e) m xs),
-    (refl, refl), omega arith)
+    let front : List Triplet = grown n own L ++ triplet r e (value_of x) ∷ [] in (
+      all-seen L (values_added m e front xs) (triplet r d None) ∙ values-later m e front xs
+          ∙ append_assoc (grown n own L) (triplet r e (value_of x) ∷ []) (each_later (instance_column [] m e) m xs),
+      (refl, refl),
+      omega arith,
+    )
 
 mutual
   slot-adds : (n : Node) (i : ℕ) (k : Repetition) (p : List Step) (level d r : ℕ) (L : List Triplet) (bs : Twigs) → TwigLeads k p (Leads p) (twig_at i bs) → TwigWithin (Within p) (length L) (twig_at i bs)
@@ -95,12 +97,14 @@ mutual
       let before : List Triplet = grown n own L in
       let one = inside-adds x p m e r before bs l.1 (within-up p (length own) (length before) bs (grown-length n own L) w.1) in
       let more = later-adds xs p m e (before ++ triplet r e None ∷ []) (inside_added x m e r before bs) one.1
-          (subst (λ (h : ℕ). Within p h (inside_added x m e r before bs)) (sym (length-snoc before (triplet r e None))) one.2) in
+      (subst (λ (h : ℕ). Within p h (inside_added x m e r before bs)) (sym (length-snoc before (triplet r e None))) one.2) in
       let g : Grown = later_added xs m e (before ++ triplet r e None ∷ []) (inside_added x m e r before bs) in
-      subst (λ (h : Repetition). FieldAdded h p level d r L (group j n own bs) (instance x xs) (field_added (instance x xs) level d r L (group j n own bs))) l.0
-      (ap (λ (t : List Triplet). column_in p t g.inside) (all-seen L g.own (triplet r d None)) ∙ more.0 ∙ ap (λ (t : List Triplet). t ++ each_later (instance_column p m e) m xs) one.0
-        ∙ append_assoc (column_in p before bs) (instance_column p m e r x) (each_later (instance_column p m e) m xs),
-      (refl, more.1), (omega arith, more.2))
+      subst (λ (h : Repetition). FieldAdded h p level d r L (group j n own bs) (instance x xs) (field_added (instance x xs) level d r L (group j n own bs))) l.0 (
+        ap (λ (t : List Triplet). column_in p t g.inside) (all-seen L g.own (triplet r d None)) ∙ more.0 ∙ ap (λ (t : List Triplet). t ++ each_later (instance_column p m e) m xs) one.0
+            ∙ append_assoc (column_in p before bs) (instance_column p m e r x) (each_later (instance_column p m e) m xs),
+        (refl, more.1),
+        (omega arith, more.2),
+      )
 
   pub inside-adds : (x : Instance) (p : List Step) (level d r : ℕ) (L : List Triplet) (bs : Twigs) → Leads p bs → Within p (length L) bs
       → (column_in p (L ++ triplet r d None ∷ []) (inside_added x level d r L bs) ≡ column_in p L bs ++ instance_column p level d r x)
@@ -116,9 +120,12 @@ mutual
   later-adds (instance x xs) p level d own bs l w =
       let one = inside-adds x p level d level own bs l w in
       let more = later-adds xs p level d (own ++ triplet level d None ∷ []) (inside_added x level d level own bs) one.1
-          (subst (λ (h : ℕ). Within p h (inside_added x level d level own bs)) (sym (length-snoc own (triplet level d None))) one.2) in
-      (more.0 ∙ ap (λ (t : List Triplet). t ++ each_later (instance_column p level d) level xs) one.0
-        ∙ append_assoc (column_in p own bs) (instance_column p level d level x) (each_later (instance_column p level d) level xs), more.1, more.2)
+      (subst (λ (h : ℕ). Within p h (inside_added x level d level own bs)) (sym (length-snoc own (triplet level d None))) one.2) in (
+        more.0 ∙ ap (λ (t : List Triplet). t ++ each_later (instance_column p level d) level xs) one.0
+            ∙ append_assoc (column_in p own bs) (instance_column p level d level x) (each_later (instance_column p level d) level xs),
+        more.1,
+        more.2,
+      )
 
 pub node_adds : NodeAdds
 node_adds n p level d r L bs l w = inside-adds (inner n) p level d r L bs l w

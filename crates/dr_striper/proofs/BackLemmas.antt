@@ -125,8 +125,8 @@ group-stays k p rest m L r g is t u et eu leads within =
     let w : TwigWithin (Within p) m (added.group (rep_view r) g.seen own (twigs_view is)) = subst (TwigWithin (Within p) m) et within in
     let one = rest (length own) (grown g.seen own L) is l.1 w.1 in
     subst (λ x. One k p m L x u) (sym et)
-      (subst (One k p m L (added.group (rep_view r) g.seen own (twigs_view is))) (sym (group-same (rep_view r) m g is w.0) ∙ sym eu)
-        (one.0, (l.0, one.1), (w.0, one.2)))
+    (subst (One k p m L (added.group (rep_view r) g.seen own (twigs_view is))) (sym (group-same (rep_view r) m g is w.0) ∙ sym eu)
+    (one.0, (l.0, one.1), (w.0, one.2)))
 
 nothing-stays : (k : Repetition) (p : List Step) (m : ℕ) (L : List Triplet) (t u : Twig) → t ≡ added.nothing → TwigLeads k p (Leads p) t → One k p m L t u
 nothing-stays k p m L t u e leads = absurd (subst (TwigLeads k p (Leads p)) e leads)
@@ -152,8 +152,8 @@ step-stays s p rest m L bs leads within = by (back-at s.place m bs)
     by (inl e) = nothing-stays s.repetition p m L (twig_at s.place (twigs_view bs)) (twig_at s.place (backs m bs)) e leads
     by (inr c) =
         subst (λ t. One s.repetition p m L t (twig_at s.place (backs m bs))) (sym c.1)
-          (subst (One s.repetition p m L (twig_view c.0)) (sym c.2)
-            (twig-stays s.repetition p rest m L c.0 (subst (TwigLeads s.repetition p (Leads p)) c.1 leads) (subst (TwigWithin (Within p) m) c.1 within)))
+        (subst (One s.repetition p m L (twig_view c.0)) (sym c.2)
+        (twig-stays s.repetition p rest m L c.0 (subst (TwigLeads s.repetition p (Leads p)) c.1 leads) (subst (TwigWithin (Within p) m) c.1 within)))
 
 pub stays : (p : List Step) → Stays p
 stays [] m L bs leads within = absurd leads

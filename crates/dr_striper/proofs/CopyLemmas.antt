@@ -17,7 +17,7 @@ use Rattle.dr_striper.specs.Shapes.{AllTaken}
 one-copied : (k : Kind) (g : ℕ) (b : Bool) (l : Levels) (r d : ℕ) (v : Option Value) (ls : List Levels) (ts : List Triplet) → has_value k b v ≡ true → l.repetition ≡ r → l.definition ≡ d
     → (joined g ls (present_values ts) ≡ ts) × (present g ls ≡ length (present_values ts))
     → ((if b then triplet l.repetition l.definition (first_of (value_list v ++ present_values ts)) ∷ joined g ls (drop 1 (value_list v ++ present_values ts)) else triplet l.repetition l.definition None ∷ joined g ls (value_list v ++ present_values ts)) ≡ triplet r d v ∷ ts)
-      × ((if b then suc (present g ls) else present g ls) ≡ length (value_list v ++ present_values ts))
+    × ((if b then suc (present g ls) else present g ls) ≡ length (value_list v ++ present_values ts))
 one-copied k g true l r d (Some v) ls ts h er ed e = (ap₂ (λ (x : Triplet) (xs : List Triplet). x ∷ xs) (ap₂ (λ (i j : ℕ). triplet i j (Some v)) er ed) e.0, ap suc e.1)
 one-copied k g true l r d None ls ts h er ed e = absurd (true≢false (sym h))
 one-copied k g false l r d (Some v) ls ts h er ed e = absurd (true≢false (sym h))

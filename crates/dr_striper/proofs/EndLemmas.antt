@@ -82,10 +82,12 @@ branch_ends i L now old x l same ss h =
 
 pub inner_ends : (k : Repetition) (L M : List Triplet) (n : ℕ) (own : List Triplet) (ss : Shapes) (bs : Twigs) → M ≡ grown n own L → OneEnds L (shapes.group k ss) (added.group k n own bs) → AllEnd M ss bs
 inner_ends k L M n own ss bs em h =
-    subst (λ t. AllEnd t ss bs) (sym em)
-    (h.0.1, λ s p f l.
-      let t = h.1 k (s ∷ p) f (refl, l) in
-      ((t.0.0.1, within-up (s ∷ p) (length own) (length (grown n own L)) bs (grown-length n own L) t.0.1.1), t.1))
+    subst (λ t. AllEnd t ss bs) (sym em) (
+      h.0.1,
+      λ s p f l.
+          let t = h.1 k (s ∷ p) f (refl, l) in
+          ((t.0.0.1, within-up (s ∷ p) (length own) (length (grown n own L)) bs (grown-length n own L) t.0.1.1), t.1),
+    )
 
 pub ends_seen : (k : Repetition) (L : List Triplet) (n : ℕ) (own : List Triplet) (ss : Shapes) (bs : Twigs) → OneEnds L (shapes.group k ss) (added.group k n own bs) → n ≤ length L
 ends_seen k L n own ss bs h = leb-true n (length L) (h.0.0 (nat_le n (length L)) (λ p f l. le-leb n (length L) (h.1 k p f (refl, l)).0.1.0))
@@ -110,15 +112,15 @@ pub leaf_lent : (P : Shape → Twig → Type 0) (b : Branch) (k k' : Rep) (l l' 
 leaf_lent P b k k' l l' e ek el h =
     subst (λ (i : Rep). P (shapes.leaf (rep_view i) (column_form l'.column)) (added.leaf (rep_view i) l'.seen (column_view l'.column))) (sym ek)
     (subst (λ (i : LeafGrown). P (shapes.leaf (rep_view k) (column_form i.column)) (added.leaf (rep_view k) i.seen (column_view i.column))) (sym el)
-      (subst (λ t. P (shapes.leaf (rep_view k) (column_form l.column)) t) (ap twig_view e ∙ twig-leaf k l) (subst (λ s. P s (twig_view b)) (ap shape_view e ∙ view-leaf k l) h)))
+    (subst (λ t. P (shapes.leaf (rep_view k) (column_form l.column)) t) (ap twig_view e ∙ twig-leaf k l) (subst (λ s. P s (twig_view b)) (ap shape_view e ∙ view-leaf k l) h)))
 
 pub group_lent : (P : Shape → Twig → Type 0) (b : Branch) (k k' : Rep) (g g' : GroupGrown) (bs : Vec Branch Global) (is : List Branch) → b ≡ branches.Group k g bs → k' ≡ k → g' ≡ g → is ≡ bs.items → P (shape_view b) (twig_view b)
     → P (shapes.group (rep_view k') (shapes_view is)) (added.group (rep_view k') g'.seen (nulls g'.levels.items) (twigs_view is))
 group_lent P b k k' g g' bs is e ek eg eb h =
     subst (λ (i : Rep). P (shapes.group (rep_view i) (shapes_view is)) (added.group (rep_view i) g'.seen (nulls g'.levels.items) (twigs_view is))) (sym ek)
     (subst (λ (i : GroupGrown). P (shapes.group (rep_view k) (shapes_view is)) (added.group (rep_view k) i.seen (nulls i.levels.items) (twigs_view is))) (sym eg)
-      (subst (λ (i : List Branch). P (shapes.group (rep_view k) (shapes_view i)) (added.group (rep_view k) g.seen (nulls g.levels.items) (twigs_view i))) (sym eb)
-        (subst (λ t. P (shapes.group (rep_view k) (shapes_view bs.items)) t) (ap twig_view e ∙ twig-group k g bs) (subst (λ s. P s (twig_view b)) (ap shape_view e ∙ view-group k g bs) h))))
+    (subst (λ (i : List Branch). P (shapes.group (rep_view k) (shapes_view i)) (added.group (rep_view k) g.seen (nulls g.levels.items) (twigs_view i))) (sym eb)
+    (subst (λ t. P (shapes.group (rep_view k) (shapes_view bs.items)) t) (ap twig_view e ∙ twig-group k g bs) (subst (λ s. P s (twig_view b)) (ap shape_view e ∙ view-group k g bs) h))))
 
 -- ---- one that is left as it is, and one that takes over the rest
 

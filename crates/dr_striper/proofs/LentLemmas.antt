@@ -47,7 +47,7 @@ lend_step [] rest d f L ss bs sh b e es eb h = absurd h.0
 lend_step (s ∷ steps) rest d f L ss bs sh b e es eb h =
     subst (λ (r : List Step). LendsOne (rep_view s.rep) (map step_view r) f L sh b) (sym e)
     (subst (λ (t : Shape). LendsOne (rep_view s.rep) (map step_view steps) f L t b) (sym es)
-      (subst (λ (t : Twig). LendsOne (rep_view s.rep) (map step_view steps) f L (shape_at s.place ss) t) (sym eb) h))
+    (subst (λ (t : Twig). LendsOne (rep_view s.rep) (map step_view steps) f L (shape_at s.place ss) t) (sym eb) h))
 
 pub lead_step : (steps rest : List Step) (d : Step) (f : LeafForm) (ss : Shapes) (sh : Shape) → rest ≡ drop 1 steps → sh ≡ shape_at (get_or steps 0 d).place ss
     → LeadsTo (map step_view steps) f ss → ShapeLeads (rep_view (get_or steps 0 d).rep) (map step_view rest) f (LeadsTo (map step_view rest) f) sh
@@ -80,10 +80,11 @@ twig-after : (k : Repetition) (p : List path.Step) → ((L : List Triplet) (bs :
     → (L : List Triplet) (b : Twig) → TwigLeads k p (Leads p) b → TwigWithin (Within p) (length L) b → TwigEnds (Ends p) L (ended_one L b)
 twig-after k p rest L added.nothing l w = absurd l
 twig-after k p rest L (added.leaf j n own) l w = seen-ended n L own w
-twig-after k p rest L (added.group j n own bs) l w =
-    (seen-ended n L own w.0,
-      subst (λ (t : List Triplet). Ends p t (ended_each (grown n own L) bs)) (sym (grown_ended n L own))
-        (rest (grown n own L) bs l.1 (within-up p (length own) (length (grown n own L)) bs (grown-length n own L) w.1)))
+twig-after k p rest L (added.group j n own bs) l w = (
+  seen-ended n L own w.0,
+  subst (λ (t : List Triplet). Ends p t (ended_each (grown n own L) bs)) (sym (grown_ended n L own))
+      (rest (grown n own L) bs l.1 (within-up p (length own) (length (grown n own L)) bs (grown-length n own L) w.1)),
+)
 
 pub after_end : (p : List path.Step) (L : List Triplet) (bs : Twigs) → Leads p bs → Within p (length L) bs → Ends p L (ended_each L bs)
 after_end [] L bs l w = absurd l

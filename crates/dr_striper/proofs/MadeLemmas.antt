@@ -1,7 +1,5 @@
 -- Trees that are made: branches at places.
 use Rattle.std.proofs.Common.{rules, ◌≡◌, ◌<◌, ◌≤◌, ℕ, zero, suc, List, [], ◌∷◌, ◌++◌, map, set, drop, get_or, length, refl, sym, ap, ap₂, ◌∙◌, arith}
-
-
 use Rattle.dr_nested.specs.Views.{rep_view}
 use Rattle.dr_nested.specs.PathView.{step_view}
 use Rattle.dr_nested.specs.declared.path.Step.{Step}
@@ -70,7 +68,7 @@ pub step_put : (steps rest : List Step) (d : Step) (f : LeafForm) (bs : List Bra
 step_put steps rest d f bs x o y ss h er l e ex same =
     let i : ℕ = (get_or steps 0 d).place in
     changed_set i bs o y (put_one (rep_view (get_or steps 0 d).rep) (map step_view rest) f (put (map step_view rest) f)) l
-        (e ∙ ap (λ b. put_one (rep_view (get_or steps 0 d).rep) (map step_view rest) f (put (map step_view rest) f) (shape_view b)) ex)
+    (e ∙ ap (λ b. put_one (rep_view (get_or steps 0 d).rep) (map step_view rest) f (put (map step_view rest) f) (shape_view b)) ex)
     ∙ same (put_one (rep_view (get_or steps 0 d).rep) (map step_view rest) f (put (map step_view rest) f))
     ∙ ap (λ r. change_at i (put_one (rep_view (get_or steps 0 d).rep) (map step_view r) f (put (map step_view r) f)) ss) er
     ∙ put_step steps d f ss h

@@ -198,7 +198,7 @@ branch_ready i level d r L h xs now old x l e same ss ready =
     let b : twig_at i (twigs_view old) ≡ twig_view (get_or now i x) = twig-here i old (get_or now i x) (drop (i + 1) now) (sym same ∙ drop-at i now x l) in
     subst (λ ys. FieldReady level d r L ys (shape_view (get_or now i x)) (twig_view (get_or now i x))) (sym e)
     (subst (λ t. FieldReady level d r L (instances_in i h) (shape_view (get_or now i x)) t) b
-      (subst (λ t. FieldReady level d r L (instances_in i h) t (twig_at i (twigs_view old))) s (field-ready i level d r L h (shapes_view old) (twigs_view old) ready)))
+    (subst (λ t. FieldReady level d r L (instances_in i h) t (twig_at i (twigs_view old))) s (field-ready i level d r L h (shapes_view old) (twigs_view old) ready)))
 
 size-at : (i : ℕ) (ss : Shapes) → size_one (shape_at i ss) ≤ size_each ss
 size-at i no_shapes = omega arith
@@ -218,57 +218,69 @@ size_below (suc i) (b ∷ bs) old x l e =
 pub first_ready : (k : Repetition) (level d r : ℕ) (L : List Triplet) (n : ℕ) (own : List Triplet) (x : Instance) (xs : Instances) (ss : Shapes) (bs : Twigs)
     → FieldReady level d r L (instance x xs) (shapes.group k ss) (added.group k n own bs)
     → Ready (level + repetition_count k) (d + definition_count k) r (grown n own L) x ss bs
-first_ready k level d r L n own x xs ss bs h =
-    (h.0.1, λ s p f l.
+first_ready k level d r L n own x xs ss bs h = (
+  h.0.1,
+  λ s p f l.
       let t = h.1 k (s ∷ p) f (refl, l) in
-      let u = taken_parts f (instance_column (s ∷ p) (level + repetition_count k) (d + definition_count k) r x) _ t.1.1 in
-      ((t.0.0.1, within-up (s ∷ p) (length own) (length (grown n own L)) bs (grown-length n own L) t.0.1.1),
+      let u = taken_parts f (instance_column (s ∷ p) (level + repetition_count k) (d + definition_count k) r x) _ t.1.1 in (
+        (t.0.0.1, within-up (s ∷ p) (length own) (length (grown n own L)) bs (grown-length n own L) t.0.1.1),
         (t.1.0, u.0),
-        (omega (arith, t.2.0), omega (arith, t.2.1))))
+        (omega (arith, t.2.0), omega (arith, t.2.1)),
+      ),
+)
 
 pub group_seen : (k : Repetition) (level d r : ℕ) (L : List Triplet) (n : ℕ) (own : List Triplet) (xs : Instances) (ss : Shapes) (bs : Twigs)
     → FieldReady level d r L xs (shapes.group k ss) (added.group k n own bs)
     → (n ≤ length L) × (level + repetition_count k ≤ 255) × (d + definition_count k ≤ 255)
-group_seen k level d r L n own xs ss bs h =
-    (leb-true n (length L) (h.0.0 (nat_le n (length L)) (λ p f l. le-leb n (length L) (h.1 k p f (refl, l)).0.1.0)),
-      leb-true (level + repetition_count k) 255 (h.0.0 (nat_le (level + repetition_count k) 255) (λ p f l. le-leb (level + repetition_count k) 255 (omega (arith, (h.1 k p f (refl, l)).2.0)))),
-      leb-true (d + definition_count k) 255 (h.0.0 (nat_le (d + definition_count k) 255) (λ p f l. le-leb (d + definition_count k) 255 (omega (arith, (h.1 k p f (refl, l)).2.1)))))
+group_seen k level d r L n own xs ss bs h = (
+  leb-true n (length L) (h.0.0 (nat_le n (length L)) (λ p f l. le-leb n (length L) (h.1 k p f (refl, l)).0.1.0)),
+  leb-true (level + repetition_count k) 255 (h.0.0 (nat_le (level + repetition_count k) 255) (λ p f l. le-leb (level + repetition_count k) 255 (omega (arith, (h.1 k p f (refl, l)).2.0)))),
+  leb-true (d + definition_count k) 255 (h.0.0 (nat_le (d + definition_count k) 255) (λ p f l. le-leb (d + definition_count k) 255 (omega (arith, (h.1 k p f (refl, l)).2.1)))),
+)
 
 pub later_ready : (k : Repetition) (level d r : ℕ) (L : List Triplet) (n : ℕ) (own : List Triplet) (x : Instance) (xs : Instances) (ss : Shapes) (bs : Twigs)
     → FieldReady level d r L (instance x xs) (shapes.group k ss) (added.group k n own bs)
     → LaterReady (level + repetition_count k) (d + definition_count k) (grown n own L ++ triplet r (d + definition_count k) None ∷ []) xs ss
-      (inside_added x (level + repetition_count k) (d + definition_count k) r (grown n own L) bs)
+    (inside_added x (level + repetition_count k) (d + definition_count k) r (grown n own L) bs)
 later_ready k level d r L n own x xs ss bs h =
     let m : ℕ = level + repetition_count k in
-    let e : ℕ = d + definition_count k in
-    (h.0.1, λ p f l.
-      let t = h.1 k p f (refl, l) in
-      let u = taken_parts f (instance_column p m e r x) (each_later (instance_column p m e) m xs) t.1.1 in
-      let one = inside-adds x p m e r (grown n own L) bs t.0.0.1 (within-up p (length own) (length (grown n own L)) bs (grown-length n own L) t.0.1.1) in
-      ((one.1, subst (λ (j : ℕ). Within p j (inside_added x m e r (grown n own L) bs)) (sym (length-snoc (grown n own L) (triplet r e None))) one.2),
-        (subst (AllTaken f) (sym one.0) (taken_joined f (column_in p (grown n own L) bs) (instance_column p m e r x) t.1.0 u.0), u.1),
-        (t.2.0, t.2.1)))
+    let e : ℕ = d + definition_count k in (
+      h.0.1,
+      λ p f l.
+          let t = h.1 k p f (refl, l) in
+          let u = taken_parts f (instance_column p m e r x) (each_later (instance_column p m e) m xs) t.1.1 in
+          let one = inside-adds x p m e r (grown n own L) bs t.0.0.1 (within-up p (length own) (length (grown n own L)) bs (grown-length n own L) t.0.1.1) in (
+            (one.1, subst (λ (j : ℕ). Within p j (inside_added x m e r (grown n own L) bs)) (sym (length-snoc (grown n own L) (triplet r e None))) one.2),
+            (subst (AllTaken f) (sym one.0) (taken_joined f (column_in p (grown n own L) bs) (instance_column p m e r x) t.1.0 u.0), u.1),
+            (t.2.0, t.2.1),
+          ),
+    )
   where
     length-snoc : (ts : List Triplet) (t : Triplet) → length (ts ++ t ∷ []) ≡ suc (length ts)
     length-snoc ts t = omega (arith, length-append ts (t ∷ []))
 
 pub next_ready : (m e : ℕ) (own : List Triplet) (x : Instance) (xs : Instances) (ss : Shapes) (bs : Twigs) → LaterReady m e own (instance x xs) ss bs → Ready m e m own x ss bs
-next_ready m e own x xs ss bs h =
-    (h.0, λ s p f l.
+next_ready m e own x xs ss bs h = (
+  h.0,
+  λ s p f l.
       let t = h.1 (s ∷ p) f l in
       let u = taken_parts f (instance_column (s ∷ p) m e m x) (each_later (instance_column (s ∷ p) m e) m xs) t.1.1 in
-      (t.0, (t.1.0, u.0), (omega (arith, t.2.0), omega (arith, t.2.1))))
+      (t.0, (t.1.0, u.0), (omega (arith, t.2.0), omega (arith, t.2.1))),
+)
 
 pub rest_ready : (m e : ℕ) (own : List Triplet) (x : Instance) (xs : Instances) (ss : Shapes) (bs : Twigs) → LaterReady m e own (instance x xs) ss bs
     → LaterReady m e (own ++ triplet m e None ∷ []) xs ss (inside_added x m e m own bs)
-rest_ready m e own x xs ss bs h =
-    (h.0, λ p f l.
+rest_ready m e own x xs ss bs h = (
+  h.0,
+  λ p f l.
       let t = h.1 p f l in
       let u = taken_parts f (instance_column p m e m x) (each_later (instance_column p m e) m xs) t.1.1 in
-      let one = inside-adds x p m e m own bs t.0.0 t.0.1 in
-      ((one.1, subst (λ (j : ℕ). Within p j (inside_added x m e m own bs)) (sym (length-snoc own (triplet m e None))) one.2),
+      let one = inside-adds x p m e m own bs t.0.0 t.0.1 in (
+        (one.1, subst (λ (j : ℕ). Within p j (inside_added x m e m own bs)) (sym (length-snoc own (triplet m e None))) one.2),
         (subst (AllTaken f) (sym one.0) (taken_joined f (column_in p own bs) (instance_column p m e m x) t.1.0 u.0), u.1),
-        t.2))
+        t.2,
+      ),
+)
   where
     length-snoc : (ts : List Triplet) (t : Triplet) → length (ts ++ t ∷ []) ≡ suc (length ts)
     length-snoc ts t = omega (arith, length-append ts (t ∷ []))
@@ -279,7 +291,7 @@ pub first_ready_at : (k : Repetition) (level d r : ℕ) (L : List Triplet) (n : 
 first_ready_at k level d r L n own x xs ss bs m e M h em ee eM =
     subst (λ (i : ℕ). Ready i e r M x ss bs) (sym em)
     (subst (λ (i : ℕ). Ready (level + repetition_count k) i r M x ss bs) (sym ee)
-      (subst (λ (t : List Triplet). Ready (level + repetition_count k) (d + definition_count k) r t x ss bs) (sym eM) (first_ready k level d r L n own x xs ss bs h)))
+    (subst (λ (t : List Triplet). Ready (level + repetition_count k) (d + definition_count k) r t x ss bs) (sym eM) (first_ready k level d r L n own x xs ss bs h)))
 
 pub later_ready_at : (k : Repetition) (level d r : ℕ) (L : List Triplet) (n : ℕ) (own : List Triplet) (x : Instance) (xs : Instances) (ss ss' : Shapes) (bs bs' : Twigs) (m e : ℕ) (M own' : List Triplet)
     → FieldReady level d r L (instance x xs) (shapes.group k ss) (added.group k n own bs) → m ≡ level + repetition_count k → e ≡ d + definition_count k → M ≡ grown n own L
@@ -347,9 +359,9 @@ pub leaf_given : (level d r : ℕ) (L : List Triplet) (xs ys : Instances) (b : B
 leaf_given level d r L xs ys b k k' l l' e ek el ex h =
     subst (λ (i : Rep). FieldReady level d r L ys (shapes.leaf (rep_view i) (column_form l'.column)) (added.leaf (rep_view i) l'.seen (column_view l'.column))) (sym ek)
     (subst (λ (i : LeafGrown). FieldReady level d r L ys (shapes.leaf (rep_view k) (column_form i.column)) (added.leaf (rep_view k) i.seen (column_view i.column))) (sym el)
-      (subst (λ (zs : Instances). FieldReady level d r L zs (shapes.leaf (rep_view k) (column_form l.column)) (added.leaf (rep_view k) l.seen (column_view l.column))) ex
-        (subst (λ t. FieldReady level d r L xs (shapes.leaf (rep_view k) (column_form l.column)) t) (ap twig_view e ∙ twig-leaf k l)
-          (subst (λ s. FieldReady level d r L xs s (twig_view b)) (ap shape_view e ∙ view-leaf k l) h))))
+    (subst (λ (zs : Instances). FieldReady level d r L zs (shapes.leaf (rep_view k) (column_form l.column)) (added.leaf (rep_view k) l.seen (column_view l.column))) ex
+    (subst (λ t. FieldReady level d r L xs (shapes.leaf (rep_view k) (column_form l.column)) t) (ap twig_view e ∙ twig-leaf k l)
+    (subst (λ s. FieldReady level d r L xs s (twig_view b)) (ap shape_view e ∙ view-leaf k l) h))))
 
 pub group_given : (level d r : ℕ) (L : List Triplet) (xs ys : Instances) (b : Branch) (k k' : Rep) (g g' : GroupGrown) (bs : Vec Branch Global) (is : List Branch) → b ≡ branches.Group k g bs → k' ≡ k → g' ≡ g → is ≡ bs.items → xs ≡ ys
     → FieldReady level d r L xs (shape_view b) (twig_view b)
@@ -357,10 +369,10 @@ pub group_given : (level d r : ℕ) (L : List Triplet) (xs ys : Instances) (b : 
 group_given level d r L xs ys b k k' g g' bs is e ek eg eb ex h =
     subst (λ (i : Rep). FieldReady level d r L ys (shapes.group (rep_view i) (shapes_view is)) (added.group (rep_view i) g'.seen (nulls g'.levels.items) (twigs_view is))) (sym ek)
     (subst (λ (i : GroupGrown). FieldReady level d r L ys (shapes.group (rep_view k) (shapes_view is)) (added.group (rep_view k) i.seen (nulls i.levels.items) (twigs_view is))) (sym eg)
-      (subst (λ (i : List Branch). FieldReady level d r L ys (shapes.group (rep_view k) (shapes_view i)) (added.group (rep_view k) g.seen (nulls g.levels.items) (twigs_view i))) (sym eb)
-        (subst (λ (zs : Instances). FieldReady level d r L zs (shapes.group (rep_view k) (shapes_view bs.items)) (added.group (rep_view k) g.seen (nulls g.levels.items) (twigs_view bs.items))) ex
-          (subst (λ t. FieldReady level d r L xs (shapes.group (rep_view k) (shapes_view bs.items)) t) (ap twig_view e ∙ twig-group k g bs)
-            (subst (λ s. FieldReady level d r L xs s (twig_view b)) (ap shape_view e ∙ view-group k g bs) h)))))
+    (subst (λ (i : List Branch). FieldReady level d r L ys (shapes.group (rep_view k) (shapes_view i)) (added.group (rep_view k) g.seen (nulls g.levels.items) (twigs_view i))) (sym eb)
+    (subst (λ (zs : Instances). FieldReady level d r L zs (shapes.group (rep_view k) (shapes_view bs.items)) (added.group (rep_view k) g.seen (nulls g.levels.items) (twigs_view bs.items))) ex
+    (subst (λ t. FieldReady level d r L xs (shapes.group (rep_view k) (shapes_view bs.items)) t) (ap twig_view e ∙ twig-group k g bs)
+    (subst (λ s. FieldReady level d r L xs s (twig_view b)) (ap shape_view e ∙ view-group k g bs) h)))))
 
 pub group_size : (b : Branch) (k : Rep) (g : GroupGrown) (bs : Vec Branch Global) (is : List Branch) → b ≡ branches.Group k g bs → is ≡ bs.items → size_one (shape_view b) ≡ 2 + size_each (shapes_view is)
 group_size b k g bs is e eb = ap (λ (x : Branch). size_one (shape_view x)) e ∙ ap size_one (view-group k g bs) ∙ sym (ap (λ (i : List Branch). 2 + size_each (shapes_view i)) eb)

@@ -115,10 +115,12 @@ put-one k (s ∷ p) f rest nothing (group J SS) lives sub l =
 put-one k (s ∷ p) f rest (leaf i e) (group J SS) lives sub l = absurd (sub i [] e (refl, refl, refl)).1
 put-one k (s ∷ p) f rest (group i ss) (group J SS) lives sub l =
     let ik : i ≡ k = same_repetition-true i k (lives.0 (same_repetition i k) (λ q g w. ap (same_repetition i) (sym (sym (sub i q g (refl, w)).0 ∙ l.0)) ∙ same_repetition-itself i)) in
-    let r = rest ss SS lives.1 (λ q g z. (sub i q g (refl, z)).1) l.1 in
-    ((ik, r.0), (λ j q g z. (z.0, r.1 q g z.1)),
+    let r = rest ss SS lives.1 (λ q g z. (sub i q g (refl, z)).1) l.1 in (
+      (ik, r.0),
+      (λ j q g z. (z.0, r.1 q g z.1)),
       (λ j q g z. only-moved j i k (s ∷ p) f q g ((i ≡ j) × LeadsTo q g ss) ik (only-group i j (s ∷ p) f ss q g z.0 (r.2 q g z.1))),
-      ((λ b z. lives.0 b (λ q g w. z q g (r.1 q g w))), r.3))
+      ((λ b z. lives.0 b (λ q g w. z q g (r.1 q g w))), r.3),
+    )
 
 step-same : (s t : Step) → t.place ≡ s.place → t.repetition ≡ s.repetition → t ≡ s
 step-same s t e h = ap₂ (λ (a : ℕ) (b : Repetition). record { place = a; repetition = b }) e h
@@ -129,7 +131,7 @@ keeps-at : (t : Step) (q : List Step) (g : LeafForm) (k : Repetition) (p : List 
 keeps-at t q g k p f i F ss r (inl e) h =
     subst (λ (n : ℕ). ShapeLeads t.repetition q g (LeadsTo q g) (shape_at n (change_at i F ss))) (sym e)
     (subst (ShapeLeads t.repetition q g (LeadsTo q g)) (sym (changed_here i F ss))
-      (r.1 t.repetition q g (subst (λ (n : ℕ). ShapeLeads t.repetition q g (LeadsTo q g) (shape_at n ss)) e h)))
+    (r.1 t.repetition q g (subst (λ (n : ℕ). ShapeLeads t.repetition q g (LeadsTo q g) (shape_at n ss)) e h)))
 keeps-at t q g k p f i F ss r (inr e) h = subst (ShapeLeads t.repetition q g (LeadsTo q g)) (sym e) h
 
 only-here : (t s : Step) (q p : List Step) (g f : LeafForm) (ss : Shapes) → t.place ≡ s.place
@@ -143,8 +145,8 @@ only-at : (t s : Step) (q p : List Step) (g f : LeafForm) (F : Shape → Shape) 
     → LeadsTo (t ∷ q) g (change_at s.place F ss) → LeadsTo (t ∷ q) g ss ⊎ ((t ∷ q ≡ s ∷ p) × (g ≡ f))
 only-at t s q p g f F ss r (inl e) h =
     only-here t s q p g f ss e (r.2 t.repetition q g
-      (subst (ShapeLeads t.repetition q g (LeadsTo q g)) (changed_here s.place F ss)
-        (subst (λ (n : ℕ). ShapeLeads t.repetition q g (LeadsTo q g) (shape_at n (change_at s.place F ss))) e h)))
+    (subst (ShapeLeads t.repetition q g (LeadsTo q g)) (changed_here s.place F ss)
+    (subst (λ (n : ℕ). ShapeLeads t.repetition q g (LeadsTo q g) (shape_at n (change_at s.place F ss))) e h)))
 only-at t s q p g f F ss r (inr e) h = inl (subst (ShapeLeads t.repetition q g (LeadsTo q g)) e h)
 
 keeps-in : (k : Repetition) (p : List Step) (f : LeafForm) (i : ℕ) (F : Shape → Shape) (ss : Shapes) → PutOne k p f (shape_at i ss) (F (shape_at i ss)) → Sub ss (change_at i F ss)
@@ -161,11 +163,12 @@ put_in [] f ss S a sub l = absurd l
 put_in (s ∷ p) f ss S a sub l =
     let F : (Shape → Shape) = put_one s.repetition p f (put p f) in
     let r : PutOne s.repetition p f (shape_at s.place ss) (F (shape_at s.place ss)) =
-        put-one s.repetition p f (put_in p f) (shape_at s.place ss) (shape_at s.place S) (lives_here s.place ss a) (λ j q g z. sub (record { place = s.place; repetition = j } ∷ q) g z) l in
-    (subst (ShapeLeads s.repetition p f (LeadsTo p f)) (sym (changed_here s.place F ss)) r.0,
+    put-one s.repetition p f (put_in p f) (shape_at s.place ss) (shape_at s.place S) (lives_here s.place ss a) (λ j q g z. sub (record { place = s.place; repetition = j } ∷ q) g z) l in (
+      subst (ShapeLeads s.repetition p f (LeadsTo p f)) (sym (changed_here s.place F ss)) r.0,
       keeps-in s.repetition p f s.place F ss r,
       only-in s p f F ss r,
-      lives_changed s.place F ss a r.3)
+      lives_changed s.place F ss a r.3,
+    )
 
 -- ---- paths one after another
 
@@ -192,7 +195,7 @@ put-all [] ss S a s l = (a, s, (λ q g h. h), tt, (λ q g h. inl h))
 put-all (m ∷ ls) ss S a s l =
     let r : PutIn m.path (leaf_form m) ss (put m.path (leaf_form m) ss) = put_in m.path (leaf_form m) ss S a s l.0 in
     let t : PutAll ls S (put m.path (leaf_form m) ss) (put_each ls (put m.path (leaf_form m) ss)) =
-        put-all ls (put m.path (leaf_form m) ss) S r.3 (λ q g h. still-sub q m.path g (leaf_form m) ss S s l.0 (r.2 q g h)) l.1 in
+    put-all ls (put m.path (leaf_form m) ss) S r.3 (λ q g h. still-sub q m.path g (leaf_form m) ss S s l.0 (r.2 q g h)) l.1 in
     (t.0, t.1, (λ q g h. t.2 q g (r.1 q g h)), (t.2 m.path (leaf_form m) r.0, t.3), (λ q g h. among-more q g m ls ss (put m.path (leaf_form m) ss) (r.2 q g) (t.4 q g h)))
 
 -- ---- nothing in it yet
@@ -264,11 +267,14 @@ sure A q g (inr z) = z
 made-grows : (fields : List Path) → OfOneTree (leaves_of fields) → Grows (leaves_of fields) [] (put_each (leaves_of fields) no_shapes) (fresh_each (put_each (leaves_of fields) no_shapes))
 made-grows fields tree =
     let ss : Shapes = put_each (leaves_of fields) no_shapes in
-    let t : PutAll (leaves_of fields) tree.0 no_shapes ss = put-all (leaves_of fields) no_shapes tree.0 tt (λ q g z. absurd (none-leads q g z)) tree.1 in
-    (t.0, t.3, λ p f l.
-      let r = fresh_in p f 0 ss l in
-      let a : IsAmong p f (leaves_of fields) = sure (IsAmong p f (leaves_of fields)) p f (t.4 p f l) in
-      ((r.0, r.1), subst (AllTaken f) (sym r.2) refl, short-bounds p (among-short p f fields a), λ n h. among-fits p f n (leaves_of fields) a h))
+    let t : PutAll (leaves_of fields) tree.0 no_shapes ss = put-all (leaves_of fields) no_shapes tree.0 tt (λ q g z. absurd (none-leads q g z)) tree.1 in (
+      t.0,
+      t.3,
+      λ p f l.
+          let r = fresh_in p f 0 ss l in
+          let a : IsAmong p f (leaves_of fields) = sure (IsAmong p f (leaves_of fields)) p f (t.4 p f l) in
+          ((r.0, r.1), subst (AllTaken f) (sym r.2) refl, short-bounds p (among-short p f fields a), λ n h. among-fits p f n (leaves_of fields) a h),
+    )
 
 pub made_grows : (fields : List Path) (ss : Shapes) (bs : Twigs) → OfOneTree (leaves_of fields) → ss ≡ put_each (leaves_of fields) no_shapes → bs ≡ fresh_each ss → Grows (leaves_of fields) [] ss bs
 made_grows fields ss bs tree e f =

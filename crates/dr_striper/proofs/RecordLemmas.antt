@@ -31,30 +31,37 @@ given-fits p f x ls a e h = subst (λ y. AllTaken f (instance_column p 0 0 0 y))
 
 pub record_ready : (x : Instance) (ls : List Leaf) (L M : List Triplet) (ss : Shapes) (bs : Twigs) → IsRecord x → list_all (fits_leaf (record_in x)) ls ≡ true → Grows ls L ss bs → M ≡ L → Ready 0 0 0 M x ss bs
 record_ready x ls L M ss bs e h grows em =
-    subst (λ t. Ready 0 0 0 t x ss bs) (sym em)
-    (grows.0, λ s p f l.
-      let t = grows.2 (s ∷ p) f l in
-      (t.0, (t.1, given-fits (s ∷ p) f x ls t.3 e h), (omega (arith, t.2.0), omega (arith, t.2.1))))
+    subst (λ t. Ready 0 0 0 t x ss bs) (sym em) (
+      grows.0,
+      λ s p f l.
+          let t = grows.2 (s ∷ p) f l in
+          (t.0, (t.1, given-fits (s ∷ p) f x ls t.3 e h), (omega (arith, t.2.0), omega (arith, t.2.1))),
+    )
 
 length-snoc : (L : List Triplet) (t : Triplet) → length (L ++ t ∷ []) ≡ suc (length L)
 length-snoc L t = omega (arith, length-append L (t ∷ []))
 
 record-grows : (x : Instance) (ls : List Leaf) (L : List Triplet) (ss : Shapes) (bs : Twigs) → IsRecord x → list_all (fits_leaf (record_in x)) ls ≡ true → Grows ls L ss bs
     → Grows ls (L ++ triplet 0 0 None ∷ []) ss (inside_added x 0 0 0 L bs)
-record-grows x ls L ss bs e h grows =
-    (grows.0, grows.1, λ p f l.
+record-grows x ls L ss bs e h grows = (
+  grows.0,
+  grows.1,
+  λ p f l.
       let t = grows.2 p f l in
-      let one = inside-adds x p 0 0 0 L bs t.0.0 t.0.1 in
-      ((one.1, subst (λ (j : ℕ). Within p j (inside_added x 0 0 0 L bs)) (sym (length-snoc L (triplet 0 0 None))) one.2),
+      let one = inside-adds x p 0 0 0 L bs t.0.0 t.0.1 in (
+        (one.1, subst (λ (j : ℕ). Within p j (inside_added x 0 0 0 L bs)) (sym (length-snoc L (triplet 0 0 None))) one.2),
         subst (AllTaken f) (sym one.0) (taken_joined f (column_in p L bs) (instance_column p 0 0 0 x) t.1 (given-fits p f x ls t.3 e h)),
-        t.2, t.3))
+        t.2,
+        t.3,
+      ),
+)
 
 pub record_grows : (x : Instance) (ls : List Leaf) (L L' M : List Triplet) (ss ss' : Shapes) (bs bs' : Twigs) → IsRecord x → list_all (fits_leaf (record_in x)) ls ≡ true → Grows ls L ss bs
     → M ≡ L → L' ≡ L ++ triplet 0 0 None ∷ [] → ss' ≡ ss → bs' ≡ inside_added x 0 0 0 M bs → Grows ls L' ss' bs'
 record_grows x ls L L' M ss ss' bs bs' e h grows em el es eb =
     subst (λ t. Grows ls t ss' bs') (sym el)
     (subst (λ t. Grows ls (L ++ triplet 0 0 None ∷ []) t bs') (sym es)
-      (subst (λ t. Grows ls (L ++ triplet 0 0 None ∷ []) ss t) (sym (eb ∙ ap (λ t. inside_added x 0 0 0 t bs) em)) (record-grows x ls L ss bs e h grows)))
+    (subst (λ t. Grows ls (L ++ triplet 0 0 None ∷ []) ss t) (sym (eb ∙ ap (λ t. inside_added x 0 0 0 t bs) em)) (record-grows x ls L ss bs e h grows)))
 
 -- the columns gain the record's
 record-columns : (x : Instance) (fields : List Path) (ls : List Leaf) (L : List Triplet) (ss : Shapes) (bs : Twigs) → IsRecord x → AllLead (leaves_of fields) ss → Grows ls L ss bs
@@ -91,18 +98,21 @@ ended_columns fields L ss bs bs' grows e = ap (columns_in (paths_view fields) L)
 -- ---- a record taken back
 
 back-grows : (ls : List Leaf) (L : List Triplet) (ss : Shapes) (bs : List Branch) → Grows ls L ss (twigs_view bs) → Grows ls L ss (backs (length L) bs)
-back-grows ls L ss bs grows =
-    (grows.0, grows.1, λ p f l.
+back-grows ls L ss bs grows = (
+  grows.0,
+  grows.1,
+  λ p f l.
       let t = grows.2 p f l in
       let one = stays p (length L) L bs t.0.0 t.0.1 in
-      ((one.1, one.2), subst (AllTaken f) (sym one.0) t.1, t.2, t.3))
+      ((one.1, one.2), subst (AllTaken f) (sym one.0) t.1, t.2, t.3),
+)
 
 pub back_grows : (ls : List Leaf) (L L' : List Triplet) (ss ss' : Shapes) (bs now : List Branch) (bs' : Twigs) (m : ℕ) → Grows ls L ss (twigs_view bs) → m ≡ length L → L' ≡ L → ss' ≡ ss → backs m now ≡ backs m bs → bs' ≡ backs m now → Grows ls L' ss' bs'
 back_grows ls L L' ss ss' bs now bs' m grows em el es eb e =
     let w : bs' ≡ backs (length L) bs = e ∙ eb ∙ ap (λ (j : ℕ). backs j bs) em in
     subst (λ t. Grows ls t ss' bs') (sym el)
     (subst (λ t. Grows ls L t bs') (sym es)
-      (subst (λ t. Grows ls L ss t) (sym w) (back-grows ls L ss bs grows)))
+    (subst (λ t. Grows ls L ss t) (sym w) (back-grows ls L ss bs grows)))
 
 back-columns : (fields : List Path) (ls : List Leaf) (L : List Triplet) (ss : Shapes) (bs : List Branch) → AllLead (leaves_of fields) ss → Grows ls L ss (twigs_view bs)
     → columns_in (paths_view fields) L (backs (length L) bs) ≡ columns_in (paths_view fields) L (twigs_view bs)

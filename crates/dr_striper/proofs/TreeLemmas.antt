@@ -50,8 +50,8 @@ mutual
       let q : o ≡ r = same_repetition-true o r b.0 in
       let w : d + definition_count r + max_definition p ≡ g = ap (λ (c : Repetition). d + definition_count c + max_definition p) (sym q) ∙ omega arith in
       subst (λ (c : ℕ). ShapeLeads o p (form k c) (LeadsTo p (form k c)) (one_shape r s (d + definition_count r))) w
-        (subst (λ (c : Repetition). ShapeLeads c p (form k (d + definition_count r + max_definition p)) (LeadsTo p (form k (d + definition_count r + max_definition p))) (one_shape r s (d + definition_count r))) (sym q)
-          (shape_leads s k p r (d + definition_count r) b.1)))
+      (subst (λ (c : Repetition). ShapeLeads c p (form k (d + definition_count r + max_definition p)) (LeadsTo p (form k (d + definition_count r + max_definition p))) (one_shape r s (d + definition_count r))) (sym q)
+      (shape_leads s k p r (d + definition_count r) b.1)))
       (λ (j : ℕ) (e : is_leaf_of fs k (step j o ∷ p) ≡ true). fields_lead fs k (step j o ∷ p) d e)
       h
 

@@ -15,6 +15,7 @@ mutual
     nothing : Twig
     leaf : Repetition → ℕ → List Triplet → Twig
     group : Repetition → ℕ → List Triplet → Twigs → Twig
+
   pub data Twigs : Type 0 where
     no_twigs : Twigs
     twig : Twig → Twigs → Twigs
@@ -81,7 +82,7 @@ abbrev mutual
       leaf k (suc (length L)) (values_added (level + repetition_count k) (d + definition_count k) (grown n own L ++ triplet r (d + definition_count k) (value_of x) ∷ []) xs)
   field_added (instance x xs) level d r L (group k n own bs) =
       regrown k (suc (length L)) (later_added xs (level + repetition_count k) (d + definition_count k) (grown n own L ++ triplet r (d + definition_count k) None ∷ [])
-        (inside_added x (level + repetition_count k) (d + definition_count k) r (grown n own L) bs))
+      (inside_added x (level + repetition_count k) (d + definition_count k) r (grown n own L) bs))
 
   pub inside_added : Instance → ℕ → ℕ → ℕ → List Triplet → Twigs → Twigs
   inside_added (atom v) level d r L bs = bs

@@ -30,12 +30,12 @@ abbrev mutual
 abbrev pub OneEnds : List Triplet → Shape → Twig → Type 0
 OneEnds L sh b =
     Lives sh × ((k : Repetition) (p : List Step) (f : LeafForm) → ShapeLeads k p f (LeadsTo p f) sh
-      → (TwigLeads k p (Leads p) b × TwigWithin (Within p) (length L) b) × AllTaken f (twig_column (column_in p) L b))
+    → (TwigLeads k p (Leads p) b × TwigWithin (Within p) (length L) b) × AllTaken f (twig_column (column_in p) L b))
 
 abbrev pub AllEnd : List Triplet → Shapes → Twigs → Type 0
 AllEnd L ss bs =
     AllLive ss × ((s : Step) (p : List Step) (f : LeafForm) → ShapeLeads s.repetition p f (LeadsTo p f) (shape_at s.place ss)
-      → (TwigLeads s.repetition p (Leads p) (twig_at s.place bs) × TwigWithin (Within p) (length L) (twig_at s.place bs)) × AllTaken f (twig_column (column_in p) L (twig_at s.place bs)))
+    → (TwigLeads s.repetition p (Leads p) (twig_at s.place bs) × TwigWithin (Within p) (length L) (twig_at s.place bs)) × AllTaken f (twig_column (column_in p) L (twig_at s.place bs)))
 
 -- no column is another at the end
 abbrev pub EndsSame : Type 0

@@ -33,4 +33,4 @@ abbrev pub Grows : List Leaf → List Triplet → Shapes → Twigs → Type 0
 Grows ls L ss bs =
     AllLive ss × AllLead ls ss
     × ((p : List Step) (f : LeafForm) → LeadsTo p f ss
-      → (Leads p bs × Within p (length L) bs) × AllTaken f (column_in p L bs) × ((max_repetition p ≤ 255) × (max_definition p ≤ 255)) × IsFitted p f ls)
+    → (Leads p bs × Within p (length L) bs) × AllTaken f (column_in p L bs) × ((max_repetition p ≤ 255) × (max_definition p ≤ 255)) × IsFitted p f ls)

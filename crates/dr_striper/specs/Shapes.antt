@@ -14,6 +14,7 @@ mutual
     nothing : Shape
     leaf : Repetition → LeafForm → Shape
     group : Repetition → Shapes → Shape
+
   pub data Shapes : Type 0 where
     no_shapes : Shapes
     shape : Shape → Shapes → Shapes
@@ -69,7 +70,7 @@ abbrev pub TwigReady : Repetition → List Step → LeafForm → ℕ → ℕ →
 TwigReady k p f level d r L xs b =
     (TwigLeads k p (Leads p) b × TwigWithin (Within p) (length L) b)
     × (AllTaken f (twig_column (column_in p) L b)
-      × AllTaken f (spread (instance_column p (level + repetition_count k) (d + definition_count k)) (level + repetition_count k) d r xs))
+    × AllTaken f (spread (instance_column p (level + repetition_count k) (d + definition_count k)) (level + repetition_count k) d r xs))
     × ((level + repetition_count k + max_repetition p ≤ 255) × (d + definition_count k + max_definition p ≤ 255))
 
 abbrev pub FieldReady : ℕ → ℕ → ℕ → List Triplet → Instances → Shape → Twig → Type 0
@@ -80,14 +81,14 @@ FieldReady level d r L xs sh b =
 abbrev pub Ready : ℕ → ℕ → ℕ → List Triplet → Instance → Shapes → Twigs → Type 0
 Ready level d r L x ss bs =
     AllLive ss × ((s : Step) (p : List Step) (f : LeafForm) → ShapeLeads s.repetition p f (LeadsTo p f) (shape_at s.place ss)
-      → TwigReady s.repetition p f level d r L (instances_in s.place x) (twig_at s.place bs))
+    → TwigReady s.repetition p f level d r L (instances_in s.place x) (twig_at s.place bs))
 
 -- later instances of a group, behind its own levels
 abbrev pub LaterReady : ℕ → ℕ → List Triplet → Instances → Shapes → Twigs → Type 0
 LaterReady level d own xs ss bs =
     AllLive ss × ((p : List Step) (f : LeafForm) → LeadsTo p f ss
-      → (Leads p bs × Within p (length own) bs) × (AllTaken f (column_in p own bs) × AllTaken f (each_later (instance_column p level d) level xs))
-      × ((level + max_repetition p ≤ 255) × (d + max_definition p ≤ 255)))
+    → (Leads p bs × Within p (length own) bs) × (AllTaken f (column_in p own bs) × AllTaken f (each_later (instance_column p level d) level xs))
+    × ((level + max_repetition p ≤ 255) × (d + max_definition p ≤ 255)))
 
 -- what the fields of an instance from a place on add to branches
 abbrev pub added_from : ℕ → Instance → ℕ → ℕ → ℕ → List Triplet → Twigs → Twigs

@@ -51,8 +51,10 @@ fn copy_field(
     above: &[Levels],
     field: &Path,
 ) -> Result<Column, NoMemory>
-    requires lends { Lends (path_view field.now).path (leaf_form (path_view field.now)) (nulls above.now) (shapes_view branches.now) (twigs_view branches.now) }
-    ensures triplets { IfOk result (λ c. column_view c ≡ column_in (path_view field.now).path (nulls above.now) (twigs_view branches.now)) }
+    requires lends { Lends (path_view field.now).path (leaf_form (path_view field.now)) (nulls above.now)
+        (shapes_view branches.now) (twigs_view branches.now) }
+    ensures triplets { IfOk result (λ c. column_view c ≡ column_in (path_view field.now).path (nulls above.now)
+        (twigs_view branches.now)) }
     ensures form { IfOk result (λ c. column_form c ≡ leaf_form (path_view field.now)) }
 {
     copied(alloc, lend_field(branches, above, field))
@@ -65,8 +67,10 @@ pub(crate) fn copy_columns(
     levels: &[Levels],
     branches: &[Branch],
 ) -> Result<Vec<Column>, NoMemory>
-    requires lends { AllLend (leaves_of fields.now) (nulls levels.now) (shapes_view branches.now) (twigs_view branches.now) }
-    ensures columns { IfOk result (λ v. columns_view v.items ≡ columns_in (paths_view fields.now) (nulls levels.now) (twigs_view branches.now)) }
+    requires lends { AllLend (leaves_of fields.now) (nulls levels.now) (shapes_view branches.now)
+        (twigs_view branches.now) }
+    ensures columns { IfOk result (λ v. columns_view v.items ≡ columns_in (paths_view fields.now) (nulls levels.now)
+        (twigs_view branches.now)) }
     ensures forms { IfOk result (λ v. forms_view v.items ≡ forms_of (leaves_of fields.now)) }
 {
     let mut columns = Vec::with_capacity(alloc, fields.len())?;

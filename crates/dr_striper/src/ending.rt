@@ -50,7 +50,8 @@ pub(crate) fn behind(above: &[Levels], from: usize) -> &[Levels]
 }
 
 fn end_leaf(rep: Rep, leaf: &mut LeafGrown, above: &[Levels]) -> Result<(), NoMemory>
-    requires ends { OneEnds (nulls above.now) (shapes.leaf (rep_view rep) (column_form (leaf.old).column)) (added.leaf (rep_view rep) (leaf.old).seen (column_view (leaf.old).column)) }
+    requires ends { OneEnds (nulls above.now) (shapes.leaf (rep_view rep) (column_form (leaf.old).column)) (added.leaf
+        (rep_view rep) (leaf.old).seen (column_view (leaf.old).column)) }
     ensures ended { OnOk result (added.leaf (rep_view rep) (leaf.new).seen (column_view (leaf.new).column)
         ≡ ended_one (nulls above.now) (added.leaf (rep_view rep) (leaf.old).seen (column_view (leaf.old).column))) }
     ensures form { column_form (leaf.new).column ≡ column_form (leaf.old).column }
@@ -70,8 +71,10 @@ fn end_inner(
 ) -> Result<(), NoMemory>
     requires ends { OneEnds (nulls above.now) (shapes.group (rep_view rep) (shapes_view inner.old))
         (added.group (rep_view rep) (group.old).seen (nulls (group.old).levels.items) (twigs_view inner.old)) }
-    ensures ended { OnOk result (added.group (rep_view rep) (group.new).seen (nulls (group.new).levels.items) (twigs_view inner.new)
-        ≡ ended_one (nulls above.now) (added.group (rep_view rep) (group.old).seen (nulls (group.old).levels.items) (twigs_view inner.old))) }
+    ensures ended { OnOk result (added.group (rep_view rep) (group.new).seen (nulls (group.new).levels.items)
+        (twigs_view inner.new)
+        ≡ ended_one (nulls above.now) (added.group (rep_view rep) (group.old).seen (nulls (group.old).levels.items)
+        (twigs_view inner.old))) }
     ensures shapes { shapes_view inner.new ≡ shapes_view inner.old }
 {
     if group.levels.len() == 0 {

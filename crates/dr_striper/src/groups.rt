@@ -29,7 +29,8 @@ fn take_over(
 /// Appends a pair of levels.
 #[inline(always)]
 fn push_pair(levels: &mut Vec<Levels>, repetition: u8, definition: u8) -> Result<(), NoMemory>
-    ensures levels { Adds (nulls levels.old.items) (nulls levels.new.items) (triplet repetition definition None ∷ []) result }
+    ensures levels { Adds (nulls levels.old.items) (nulls levels.new.items)
+        (triplet repetition definition None ∷ []) result }
 {
     levels.push(Levels {
         repetition,
@@ -84,7 +85,8 @@ impl GroupGrown {
             ++ triplet repetition definition None ∷ []) }
         ensures begins { OnOk result ((self.new).was_long < length (self.new).levels.items) }
         ensures seen { (self.new).seen ≡ length above.now }
-        ensures kept_seen { kept_seen kept (self.new).seen (self.new).was_seen ≡ kept_seen kept (self.old).seen (self.old).was_seen }
+        ensures kept_seen { kept_seen kept (self.new).seen (self.new).was_seen
+            ≡ kept_seen kept (self.old).seen (self.old).was_seen }
         ensures kept_own { kept_own kept (self.new).seen (self.new).was_long (nulls (self.new).levels.items)
             ≡ kept_own kept (self.old).seen (self.old).was_long (nulls (self.old).levels.items) }
     {
@@ -103,10 +105,12 @@ impl GroupGrown {
         definition: u8,
     ) -> Result<(), NoMemory>
         requires begun { kept < (self.old).seen }
-        ensures levels { Adds (nulls (self.old).levels.items) (nulls (self.new).levels.items) (triplet repetition definition None ∷ []) result }
+        ensures levels { Adds (nulls (self.old).levels.items) (nulls (self.new).levels.items)
+            (triplet repetition definition None ∷ []) result }
         ensures begins { OnOk result ((self.new).was_long < length (self.new).levels.items) }
         ensures seen { (self.new).seen ≡ (self.old).seen }
-        ensures kept_seen { kept_seen kept (self.new).seen (self.new).was_seen ≡ kept_seen kept (self.old).seen (self.old).was_seen }
+        ensures kept_seen { kept_seen kept (self.new).seen (self.new).was_seen
+            ≡ kept_seen kept (self.old).seen (self.old).was_seen }
         ensures kept_own { kept_own kept (self.new).seen (self.new).was_long (nulls (self.new).levels.items)
             ≡ kept_own kept (self.old).seen (self.old).was_long (nulls (self.old).levels.items) }
     {
@@ -115,7 +119,8 @@ impl GroupGrown {
 
     /// Takes back a record in which it took part if it has seen more than the levels above that were there before.
     pub(crate) fn take_back(&mut self, kept: usize)
-        ensures levels { nulls (self.new).levels.items ≡ kept_own kept (self.old).seen (self.old).was_long (nulls (self.old).levels.items) }
+        ensures levels { nulls (self.new).levels.items ≡ kept_own kept (self.old).seen (self.old).was_long (nulls
+            (self.old).levels.items) }
         ensures seen { (self.new).seen ≡ kept_seen kept (self.old).seen (self.old).was_seen }
     {
         if self.seen > kept {

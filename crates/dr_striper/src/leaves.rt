@@ -35,7 +35,8 @@ impl LeafGrown {
     pub(crate) fn catch_up(&mut self, above: &[Levels], until: usize) -> Result<(), NoMemory>
         requires seen { (self.old).seen ≤ until }
         requires within { until ≤ length above.now }
-        requires nulls { present (column_form (self.old).column).greatest (take (until - (self.old).seen) (drop (self.old).seen above.now)) ≡ 0 }
+        requires nulls { present (column_form (self.old).column).greatest (take (until - (self.old).seen) (drop
+            (self.old).seen above.now)) ≡ 0 }
         ensures column { OnOk result (column_view (self.new).column
             ≡ grown (self.old).seen (column_view (self.old).column) (nulls (take until above.now))) }
         ensures seen { OnOk result ((self.new).seen ≡ until) }
@@ -74,13 +75,16 @@ impl LeafGrown {
         requires some { 1 ≤ length above.now }
         requires begun { kept < length above.now }
         requires seen { (self.old).seen ≤ length above.now - 1 }
-        requires nulls { present (column_form (self.old).column).greatest (take (length above.now - 1 - (self.old).seen) (drop (self.old).seen above.now)) ≡ 0 }
-        requires takes { takes (column_form (self.old).column) (triplet repetition definition (option_map lent_value value)) ≡ true }
+        requires nulls { present (column_form (self.old).column).greatest (take (length above.now - 1 -
+            (self.old).seen) (drop (self.old).seen above.now)) ≡ 0 }
+        requires takes { takes (column_form (self.old).column) (triplet repetition definition
+            (option_map lent_value value)) ≡ true }
         ensures column { OnOk result (column_view (self.new).column
             ≡ grown (self.old).seen (column_view (self.old).column) (nulls (take (length above.now - 1) above.now))
             ++ triplet repetition definition (option_map lent_value value.entry) ∷ []) }
         ensures seen { (self.new).seen ≡ length above.now }
-        ensures kept_seen { kept_seen kept (self.new).seen (self.new).was_seen ≡ kept_seen kept (self.old).seen (self.old).was_seen }
+        ensures kept_seen { kept_seen kept (self.new).seen (self.new).was_seen
+            ≡ kept_seen kept (self.old).seen (self.old).was_seen }
         ensures kept_own { kept_own kept (self.new).seen (self.new).was_long (column_view (self.new).column)
             ≡ kept_own kept (self.old).seen (self.old).was_long (column_view (self.old).column) }
         ensures form { column_form (self.new).column ≡ column_form (self.old).column }
@@ -105,11 +109,13 @@ impl LeafGrown {
         value: Option<ValueRef<'_>>,
     ) -> Result<(), NoMemory>
         requires begun { kept < (self.old).seen }
-        requires takes { takes (column_form (self.old).column) (triplet repetition definition (option_map lent_value value)) ≡ true }
+        requires takes { takes (column_form (self.old).column) (triplet repetition definition
+            (option_map lent_value value)) ≡ true }
         ensures column { Adds (column_view (self.old).column) (column_view (self.new).column)
             (triplet repetition definition (option_map lent_value value.entry) ∷ []) result }
         ensures seen { (self.new).seen ≡ (self.old).seen }
-        ensures kept_seen { kept_seen kept (self.new).seen (self.new).was_seen ≡ kept_seen kept (self.old).seen (self.old).was_seen }
+        ensures kept_seen { kept_seen kept (self.new).seen (self.new).was_seen
+            ≡ kept_seen kept (self.old).seen (self.old).was_seen }
         ensures kept_own { kept_own kept (self.new).seen (self.new).was_long (column_view (self.new).column)
             ≡ kept_own kept (self.old).seen (self.old).was_long (column_view (self.old).column) }
         ensures form { column_form (self.new).column ≡ column_form (self.old).column }
@@ -123,7 +129,8 @@ impl LeafGrown {
 
     /// Takes back a record in which it took part if it has seen more than the levels above that were there before.
     pub(crate) fn take_back(&mut self, kept: usize)
-        ensures column { column_view (self.new).column ≡ kept_own kept (self.old).seen (self.old).was_long (column_view (self.old).column) }
+        ensures column { column_view (self.new).column ≡ kept_own kept (self.old).seen (self.old).was_long
+            (column_view (self.old).column) }
         ensures seen { (self.new).seen ≡ kept_seen kept (self.old).seen (self.old).was_seen }
         ensures form { column_form (self.new).column ≡ column_form (self.old).column }
     {

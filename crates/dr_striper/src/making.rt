@@ -16,5 +16,7 @@ pub struct Striper<'a> {
     /// A pair for each record.
     pub(crate) levels: Vec<Levels>,
     pub(crate) branches: Vec<Branch>,
-    pub ghost grows: { Grows (leaves_of fields.now) (nulls levels.items) (shapes_view branches.items) (twigs_view branches.items) } by { Grows-prop (leaves_of fields.now) (nulls levels.items) (shapes_view branches.items) (twigs_view branches.items) },
+    pub ghost grows: { Grows (leaves_of fields.now) (nulls levels.items) (shapes_view branches.items)
+        (twigs_view branches.items) } by { Grows-prop (leaves_of fields.now) (nulls levels.items)
+            (shapes_view branches.items) (twigs_view branches.items) },
 }

@@ -55,10 +55,13 @@ fn stripe_leaf<H: Held>(
 ) -> Result<(), NoMemory>
     requires some { 1 ≤ length above.now }
     requires begun { kept < length above.now }
-    requires ready { FieldReady level definition repetition (before above.now) (record_tree.instance (H.shows first) (H.lists later))
-        (shapes.leaf (rep_view rep) (column_form (leaf.old).column)) (added.leaf (rep_view rep) (leaf.old).seen (column_view (leaf.old).column)) }
+    requires ready { FieldReady level definition repetition (before above.now) (record_tree.instance (H.shows first)
+        (H.lists later))
+        (shapes.leaf (rep_view rep) (column_form (leaf.old).column)) (added.leaf (rep_view rep) (leaf.old).seen
+        (column_view (leaf.old).column)) }
     ensures added { OnOk result (added.leaf (rep_view rep) (leaf.new).seen (column_view (leaf.new).column)
-        ≡ added.field_added (record_tree.instance (H.shows first) (H.lists later)) level definition repetition (before above.now)
+        ≡ added.field_added (record_tree.instance (H.shows first) (H.lists later)) level definition repetition
+        (before above.now)
         (added.leaf (rep_view rep) (leaf.old).seen (column_view (leaf.old).column))) }
     ensures kept { leaf_back (rep_view rep) kept leaf.new ≡ leaf_back (rep_view rep) kept leaf.old }
     ensures form { column_form (leaf.new).column ≡ column_form (leaf.old).column }
@@ -91,23 +94,43 @@ fn stripe_inner<H: Held>(
 ) -> Result<(), NoMemory>
     requires some { 1 ≤ length above.now }
     requires begun { kept < length above.now }
-    requires ready { FieldReady level definition repetition (before above.now) (record_tree.instance (H.shows first) (H.lists later))
+    requires ready { FieldReady level definition repetition (before above.now) (record_tree.instance (H.shows first)
+        (H.lists later))
         (shapes.group (rep_view rep) (shapes_view inner.old))
         (added.group (rep_view rep) (group.old).seen (nulls (group.old).levels.items) (twigs_view inner.old)) }
-    ensures added { OnOk result (added.group (rep_view rep) (group.new).seen (nulls (group.new).levels.items) (twigs_view inner.new)
-        ≡ added.field_added (record_tree.instance (H.shows first) (H.lists later)) level definition repetition (before above.now)
+    ensures added { OnOk result (added.group (rep_view rep) (group.new).seen (nulls (group.new).levels.items)
+        (twigs_view inner.new)
+        ≡ added.field_added (record_tree.instance (H.shows first) (H.lists later)) level definition repetition
+        (before above.now)
         (added.group (rep_view rep) (group.old).seen (nulls (group.old).levels.items) (twigs_view inner.old))) }
-    ensures kept { group_back (rep_view rep) kept group.new inner.new ≡ group_back (rep_view rep) kept group.old inner.old }
+    ensures kept { group_back (rep_view rep) kept group.new inner.new
+        ≡ group_back (rep_view rep) kept group.old inner.old }
     ensures shapes { shapes_view inner.new ≡ shapes_view inner.old }
 {
     let below = level_below(level, rep);
     let reached = definition_below(definition, rep);
     group.begin_first(kept, above, repetition, reached)?;
-    stripe_group::<H>(inner, group.was_long, &group.levels, first, repetition, below, reached)?;
+    stripe_group::<H>(
+        inner,
+        group.was_long,
+        &group.levels,
+        first,
+        repetition,
+        below,
+        reached,
+    )?;
     let mut rest = later;
     'instances: while let Some((instance, behind)) = H::cut_first(rest) {
         group.begin_later(kept, below, reached)?;
-        stripe_group::<H>(inner, group.was_long, &group.levels, instance, below, below, reached)?;
+        stripe_group::<H>(
+            inner,
+            group.was_long,
+            &group.levels,
+            instance,
+            below,
+            below,
+            reached,
+        )?;
         rest = behind;
     }
     Ok(())
@@ -127,7 +150,8 @@ fn stripe_field<H: Held>(
 ) -> Result<(), NoMemory>
     requires some { 1 ≤ length above.now }
     requires begun { kept < length above.now }
-    requires ready { FieldReady level definition repetition (before above.now) (H.lists instances) (shape_view branch.old) (twig_view branch.old) }
+    requires ready { FieldReady level definition repetition (before above.now) (H.lists instances)
+        (shape_view branch.old) (twig_view branch.old) }
     ensures added { OnOk result (twig_view branch.new
         ≡ added.field_added (H.lists instances) level definition repetition (before above.now) (twig_view branch.old)) }
     ensures kept { back_view branch.new kept ≡ back_view branch.old kept }
@@ -138,7 +162,9 @@ fn stripe_field<H: Held>(
         Some((first, later)) => match branch {
             Branch::Nothing => Ok(()),
             Branch::Leaf(rep, leaf) => {
-                stripe_leaf::<H>(*rep, leaf, kept, above, first, later, repetition, level, definition)
+                stripe_leaf::<H>(
+                    *rep, leaf, kept, above, first, later, repetition, level, definition,
+                )
             }
             Branch::Group(rep, group, inner) => {
                 stripe_inner::<H>(
@@ -162,7 +188,8 @@ pub(crate) fn stripe_group<H: Held>(
 ) -> Result<(), NoMemory>
     requires some { 1 ≤ length above.now }
     requires begun { kept < length above.now }
-    requires ready { Ready level definition repetition (before above.now) (H.shows held) (shapes_view branches.old) (twigs_view branches.old) }
+    requires ready { Ready level definition repetition (before above.now) (H.shows held) (shapes_view branches.old)
+        (twigs_view branches.old) }
     ensures added { OnOk result (twigs_view branches.new
         ≡ added.inside_added (H.shows held) level definition repetition (before above.now) (twigs_view branches.old)) }
     ensures kept { backs kept branches.new ≡ backs kept branches.old }

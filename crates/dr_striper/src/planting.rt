@@ -11,15 +11,16 @@ ghost use Rattle.dr_striper.specs.Made.{IsFresh, AreFresh, change_at, put_one, p
 ghost use Rattle.dr_striper.specs.Views.{shape_view, shapes_view, twigs_view};
 
 use crate::branch::{Branch, GroupGrown, LeafGrown};
-use std::alloc::Global;
 use dr_levels::{Column, max_d};
 use dr_nested::{Kind, NoMemory, Path, Rep, Step};
+use std::alloc::Global;
 
 /// Branches up to a place; those that weren't there are nothing.
 fn make_room(branches: &mut Vec<Branch>, place: usize) -> Result<(), NoMemory>
     requires { AreFresh branches.old.items }
     ensures room { OnOk result (place < length branches.new.items) }
-    ensures shapes { OnOk result ((F : Shape → Shape) → change_at place F (shapes_view branches.new.items) ≡ change_at place F (shapes_view branches.old.items)) }
+    ensures shapes { OnOk result ((F : Shape → Shape) → change_at place F (shapes_view branches.new.items)
+        ≡ change_at place F (shapes_view branches.old.items)) }
     ensures fresh { OnOk result (AreFresh branches.new.items) }
 {
     'room: while branches.len() <= place {
@@ -47,14 +48,22 @@ pub(crate) fn put_path(
     greatest: u8,
 ) -> Result<(), NoMemory>
     requires { AreFresh branches.old.items }
-    ensures shapes { OnOk result (shapes_view branches.new.items ≡ put (map step_view steps.now) (form (kind_view kind) greatest) (shapes_view branches.old.items)) }
+    ensures shapes { OnOk result (shapes_view branches.new.items
+        ≡ put (map step_view steps.now) (form (kind_view kind) greatest) (shapes_view branches.old.items)) }
     ensures fresh { OnOk result (AreFresh branches.new.items) }
 {
     if steps.len() > 0 {
         let place = steps[0].place;
         let rep = steps[0].rep;
         make_room(branches, place)?;
-        put_one(alloc, &mut branches[place], rep, behind_first(steps), kind, greatest)?;
+        put_one(
+            alloc,
+            &mut branches[place],
+            rep,
+            behind_first(steps),
+            kind,
+            greatest,
+        )?;
     }
     Ok(())
 }
@@ -69,7 +78,8 @@ fn put_one(
     greatest: u8,
 ) -> Result<(), NoMemory>
     requires { IsFresh branch.old }
-    ensures shape { OnOk result (shape_view branch.new ≡ put_one (rep_view rep) (map step_view rest.now) (form (kind_view kind) greatest)
+    ensures shape { OnOk result (shape_view branch.new ≡ put_one (rep_view rep) (map step_view rest.now) (form
+        (kind_view kind) greatest)
         (put (map step_view rest.now) (form (kind_view kind) greatest)) (shape_view branch.old)) }
     ensures fresh { OnOk result (IsFresh branch.new) }
 {
@@ -96,7 +106,8 @@ fn fresh_branch(
     kind: Kind,
     greatest: u8,
 ) -> Result<Branch, NoMemory>
-    ensures shape { IfOk result (λ b. shape_view b ≡ put_one (rep_view rep) (map step_view rest.now) (form (kind_view kind) greatest)
+    ensures shape { IfOk result (λ b. shape_view b ≡ put_one (rep_view rep) (map step_view rest.now) (form
+        (kind_view kind) greatest)
         (put (map step_view rest.now) (form (kind_view kind) greatest)) nothing) }
     ensures fresh { IfOk result IsFresh }
 {
@@ -129,17 +140,25 @@ fn fresh_branch(
 /// Puts a leaf into a tree without records.
 fn put_leaf(alloc: Global, branches: &mut Vec<Branch>, field: &Path) -> Result<(), NoMemory>
     requires { AreFresh branches.old.items }
-    ensures shapes { OnOk result (shapes_view branches.new.items ≡ put (path_view field.now).path (leaf_form (path_view field.now)) (shapes_view branches.old.items)) }
+    ensures shapes { OnOk result (shapes_view branches.new.items
+        ≡ put (path_view field.now).path (leaf_form (path_view field.now)) (shapes_view branches.old.items)) }
     ensures fresh { OnOk result (AreFresh branches.new.items) }
 {
-    put_path(alloc, branches, &field.steps, field.kind, max_d(field) as u8)
+    put_path(
+        alloc,
+        branches,
+        &field.steps,
+        field.kind,
+        max_d(field) as u8,
+    )
 }
 
 /// A tree of some leaves, without records.
 pub(crate) fn new_branches(alloc: Global, fields: &[Path]) -> Result<Vec<Branch>, NoMemory>
     requires { OfOneTree (leaves_of fields.now) }
     ensures grows { IfOk result (λ v. Grows (leaves_of fields.now) [] (shapes_view v.items) (twigs_view v.items)) }
-    ensures columns { IfOk result (λ v. columns_in (paths_view fields.now) [] (twigs_view v.items) ≡ replicate (length fields.now) []) }
+    ensures columns { IfOk result (λ v. columns_in (paths_view fields.now) [] (twigs_view v.items)
+        ≡ replicate (length fields.now) []) }
 {
     let mut branches = Vec::new(alloc);
     'fields: for number in 0..fields.len() {

@@ -36,12 +36,14 @@ pub(crate) fn stripe_record<H: Held>(
     held: H,
 ) -> Result<(), NoMemory>
     requires group { IsRecord (H.shows held) }
-    requires grows { Grows (leaves_of fields.now) (nulls levels.old.items) (shapes_view branches.old) (twigs_view branches.old) }
+    requires grows { Grows (leaves_of fields.now) (nulls levels.old.items) (shapes_view branches.old)
+        (twigs_view branches.old) }
     requires fits { list_all (fits_leaf (record_in (H.shows held))) (leaves_of fields.now) ≡ true }
     ensures columns { AddsRecord (record_in (H.shows held)) (paths_view fields.now)
         (columns_in (paths_view fields.now) (nulls levels.old.items) (twigs_view branches.old))
         (columns_in (paths_view fields.now) (nulls levels.new.items) (twigs_view branches.new)) result }
-    ensures grows { Grows (leaves_of fields.now) (nulls levels.new.items) (shapes_view branches.new) (twigs_view branches.new) }
+    ensures grows { Grows (leaves_of fields.now) (nulls levels.new.items) (shapes_view branches.new)
+        (twigs_view branches.new) }
 {
     let kept = levels.len();
     levels.push(Levels {
@@ -63,10 +65,12 @@ pub(crate) fn end_records(
     levels: &[Levels],
     branches: &mut [Branch],
 ) -> Result<(), NoMemory>
-    requires grows { Grows (leaves_of fields.now) (nulls levels.now) (shapes_view branches.old) (twigs_view branches.old) }
+    requires grows { Grows (leaves_of fields.now) (nulls levels.now) (shapes_view branches.old)
+        (twigs_view branches.old) }
     ensures columns { OnOk result (columns_in (paths_view fields.now) (nulls levels.now) (twigs_view branches.new)
         ≡ columns_in (paths_view fields.now) (nulls levels.now) (twigs_view branches.old)) }
-    ensures lends { OnOk result (AllLend (leaves_of fields.now) (nulls levels.now) (shapes_view branches.new) (twigs_view branches.new)) }
+    ensures lends { OnOk result (AllLend (leaves_of fields.now) (nulls levels.now) (shapes_view branches.new)
+        (twigs_view branches.new)) }
     ensures shapes { shapes_view branches.new ≡ shapes_view branches.old }
 {
     end(branches, levels)?;

@@ -19,8 +19,8 @@ returns-in-Bools-clause-triplets c =
     let ls = c.levels-levels.result.now in
     adds-same c.extend_bools.result (column_view c.args.column.now) (column_view c.extend_bools.new.self) (joined (column_form c.args.column.now).greatest ls (map bool_value c.in-Bools.values.now)) (triplets_view c.args.triplets)
     (ap (λ (f : LeafForm). joined f.greatest ls (map bool_value c.in-Bools.values.now)) c.requires.form
-      ∙ ap (joined (triplets_form c.args.triplets).greatest ls) c.in-Bools.ensures.values
-      ∙ (all_copied (triplets_form c.args.triplets) ls (triplets_view c.args.triplets) c.levels-levels.ensures c.requires.taken).0)
+    ∙ ap (joined (triplets_form c.args.triplets).greatest ls) c.in-Bools.ensures.values
+    ∙ (all_copied (triplets_form c.args.triplets) ls (triplets_view c.args.triplets) c.levels-levels.ensures c.requires.taken).0)
     c.extend_bools.ensures.triplets
 
 pub extend_integers-requires-clause-as_many : goal.extend_integers-requires-clause-as_many
@@ -35,8 +35,8 @@ returns-in-Integers-clause-triplets c =
     let ls = c.levels-levels.result.now in
     adds-same c.extend_integers.result (column_view c.args.column.now) (column_view c.extend_integers.new.self) (joined (column_form c.args.column.now).greatest ls (map int_value c.in-Integers.values.now)) (triplets_view c.args.triplets)
     (ap (λ (f : LeafForm). joined f.greatest ls (map int_value c.in-Integers.values.now)) c.requires.form
-      ∙ ap (joined (triplets_form c.args.triplets).greatest ls) c.in-Integers.ensures.values
-      ∙ (all_copied (triplets_form c.args.triplets) ls (triplets_view c.args.triplets) c.levels-levels.ensures c.requires.taken).0)
+    ∙ ap (joined (triplets_form c.args.triplets).greatest ls) c.in-Integers.ensures.values
+    ∙ (all_copied (triplets_form c.args.triplets) ls (triplets_view c.args.triplets) c.levels-levels.ensures c.requires.taken).0)
     c.extend_integers.ensures.triplets
 
 pub extend_texts-requires-clause-as_many : goal.extend_texts-requires-clause-as_many
@@ -51,6 +51,6 @@ returns-in-Texts-clause-triplets c =
     let ls = c.levels-levels.result.now in
     adds-same c.extend_texts.result (column_view c.args.column.now) (column_view c.extend_texts.new.self) (joined (column_form c.args.column.now).greatest ls (text_values c.in-Texts.bytes.now c.in-Texts.places.now)) (triplets_view c.args.triplets)
     (ap (λ (f : LeafForm). joined f.greatest ls (text_values c.in-Texts.bytes.now c.in-Texts.places.now)) c.requires.form
-      ∙ ap (joined (triplets_form c.args.triplets).greatest ls) c.in-Texts.ensures.values
-      ∙ (all_copied (triplets_form c.args.triplets) ls (triplets_view c.args.triplets) c.levels-levels.ensures c.requires.taken).0)
+    ∙ ap (joined (triplets_form c.args.triplets).greatest ls) c.in-Texts.ensures.values
+    ∙ (all_copied (triplets_form c.args.triplets) ls (triplets_view c.args.triplets) c.levels-levels.ensures c.requires.taken).0)
     c.extend_texts.ensures.triplets

@@ -11,5 +11,7 @@ copy_field-requires c =
     let L = nulls c.args.levels.now in
     let ss = shapes_view c.args.branches.now in
     let bs = twigs_view c.args.branches.now in
-    record { lends = subst (λ m. Lends (path_view m).path (leaf_form (path_view m)) L ss bs) (sym c.index-fields-number.is)
-      (lends_at c.fields.number c.args.fields.now c.index-fields-number.result L ss bs (omega (arith, c.fields-test.true, c.fields.auto.number-end)) c.requires.lends) }
+    record {
+      lends = subst (λ m. Lends (path_view m).path (leaf_form (path_view m)) L ss bs) (sym c.index-fields-number.is)
+          (lends_at c.fields.number c.args.fields.now c.index-fields-number.result L ss bs (omega (arith, c.fields-test.true, c.fields.auto.number-end)) c.requires.lends);
+    }

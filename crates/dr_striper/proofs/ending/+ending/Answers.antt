@@ -10,9 +10,10 @@ use Rattle.dr_striper.proofs.ending.+ending.Goals as goal
 
 pub end-end_one-requires : goal.end-end_one-requires
 end-end_one-requires t c =
-    let few : c.branches.number < length c.branches.branches = omega (arith, c.branches-test.true, c.branches.auto.branches) in
-    (omega (arith, c.decreases, size_below c.branches.number c.branches.branches c.args.branches.now c.index-branches-number.result few c.branches.invariant.2),
-      branch_ends c.branches.number (nulls c.args.above.now) c.branches.branches c.args.branches.now c.index-branches-number.result few c.branches.invariant.1 c.branches.invariant.2 c.requires.ends)
+    let few : c.branches.number < length c.branches.branches = omega (arith, c.branches-test.true, c.branches.auto.branches) in (
+      omega (arith, c.decreases, size_below c.branches.number c.branches.branches c.args.branches.now c.index-branches-number.result few c.branches.invariant.2),
+      branch_ends c.branches.number (nulls c.args.above.now) c.branches.branches c.args.branches.now c.index-branches-number.result few c.branches.invariant.1 c.branches.invariant.2 c.requires.ends,
+    )
 
 pub end-returns-in_err-end_one-clause-shapes : goal.end-returns-in_err-end_one-clause-shapes
 end-returns-in_err-end_one-clause-shapes t c =
@@ -20,10 +21,11 @@ end-returns-in_err-end_one-clause-shapes t c =
 
 pub end-branches-preserved : goal.end-branches-preserved
 end-branches-preserved t c =
-    let few : c.branches.number < length c.branches.branches = omega (arith, c.branches-test.true, c.branches.auto.branches) in
-    (end_more c.branches.number (nulls c.args.above.now) c.branches.branches c.index-branches-number.result c.end_one.new.branch (ended_each (nulls c.args.above.now) (twigs_view c.args.branches.now)) few c.in_ok-end_one.ensures.ended c.branches.invariant.0,
-    drop_more c.branches.number c.branches.branches c.args.branches.now c.end_one.new.branch c.branches.invariant.1,
-    same_shapes c.branches.number c.branches.branches c.index-branches-number.result c.end_one.new.branch few c.end_one.ensures.shape ∙ c.branches.invariant.2)
+    let few : c.branches.number < length c.branches.branches = omega (arith, c.branches-test.true, c.branches.auto.branches) in (
+      end_more c.branches.number (nulls c.args.above.now) c.branches.branches c.index-branches-number.result c.end_one.new.branch (ended_each (nulls c.args.above.now) (twigs_view c.args.branches.now)) few c.in_ok-end_one.ensures.ended c.branches.invariant.0,
+      drop_more c.branches.number c.branches.branches c.args.branches.now c.end_one.new.branch c.branches.invariant.1,
+      same_shapes c.branches.number c.branches.branches c.index-branches-number.result c.end_one.new.branch few c.end_one.ensures.shape ∙ c.branches.invariant.2,
+    )
 
 pub end-returns-clause-ended : goal.end-returns-clause-ended
 end-returns-clause-ended t c =
@@ -31,10 +33,11 @@ end-returns-clause-ended t c =
 
 pub end_inner-end-requires : goal.end_inner-end-requires
 end_inner-end-requires t c =
-    let own = nulls c.args.group.now.levels.items in
-    (omega (arith, c.decreases),
+    let own = nulls c.args.group.now.levels.items in (
+      omega (arith, c.decreases),
       inner_ends (rep_view c.args.rep) (nulls c.args.above.now) (nulls c.behind.result.now) c.args.group.now.seen own (shapes_view c.args.inner.now) (twigs_view c.args.inner.now)
-          (lent_rest c.args.group.now.seen c.args.above.now c.behind.result.now own (no_items own (omega (arith, c.if-len-eq0.true, c.len.ensures, length-map c.args.group.now.levels.items null_of))) c.behind.ensures) c.requires.ends)
+          (lent_rest c.args.group.now.seen c.args.above.now c.behind.result.now own (no_items own (omega (arith, c.if-len-eq0.true, c.len.ensures, length-map c.args.group.now.levels.items null_of))) c.behind.ensures) c.requires.ends,
+    )
 
 pub end_inner-catch_up-requires-clause-seen : goal.end_inner-catch_up-requires-clause-seen
 end_inner-catch_up-requires-clause-seen t c =
@@ -43,19 +46,21 @@ end_inner-catch_up-requires-clause-seen t c =
 pub end_inner-end-requires-else-len-eq0 : goal.end_inner-end-requires-else-len-eq0
 end_inner-end-requires-else-len-eq0 t c =
     let own = nulls c.args.group.now.levels.items in
-    let ls = c.args.above.now in
-    (omega (arith, c.decreases),
+    let ls = c.args.above.now in (
+      omega (arith, c.decreases),
       inner_ends (rep_view c.args.rep) (nulls ls) (nulls c.deref.result.now) c.args.group.now.seen own (shapes_view c.args.inner.now) (twigs_view c.args.inner.now)
-          (ap nulls c.deref.ensures.value ∙ c.in_ok-catch_up.ensures.levels ∙ ap (λ ks. grown c.args.group.now.seen own (nulls ks)) (take_all (length ls) ls (omega arith))) c.requires.ends)
+          (ap nulls c.deref.ensures.value ∙ c.in_ok-catch_up.ensures.levels ∙ ap (λ ks. grown c.args.group.now.seen own (nulls ks)) (take_all (length ls) ls (omega arith))) c.requires.ends,
+    )
 
 pub end_one-end_leaf-requires : goal.end_one-end_leaf-requires
 end_one-end_leaf-requires t c = record { ends = leaf_lent (λ s b. OneEnds (nulls c.args.above.now) s b) c.args.branch.now c.in-Leaf.rep _ c.in-Leaf.leaf _ c.in-Leaf.is c.in-Leaf.rep-is c.in-Leaf.leaf-is c.requires.ends }
 
 pub end_one-end_inner-requires : goal.end_one-end_inner-requires
 end_one-end_inner-requires t c =
-    let is : c.deref_mut.result.now ≡ c.in-Group.inner.items = c.deref_mut.ensures.value ∙ ap (λ v. v.items) c.in-Group.inner-is in
-    (omega (arith, c.decreases, group_size c.args.branch.now c.in-Group.rep c.in-Group.group c.in-Group.inner c.deref_mut.result.now c.in-Group.is is),
-      group_lent (λ s b. OneEnds (nulls c.args.above.now) s b) c.args.branch.now c.in-Group.rep _ c.in-Group.group _ c.in-Group.inner c.deref_mut.result.now c.in-Group.is c.in-Group.rep-is c.in-Group.group-is is c.requires.ends)
+    let is : c.deref_mut.result.now ≡ c.in-Group.inner.items = c.deref_mut.ensures.value ∙ ap (λ v. v.items) c.in-Group.inner-is in (
+      omega (arith, c.decreases, group_size c.args.branch.now c.in-Group.rep c.in-Group.group c.in-Group.inner c.deref_mut.result.now c.in-Group.is is),
+      group_lent (λ s b. OneEnds (nulls c.args.above.now) s b) c.args.branch.now c.in-Group.rep _ c.in-Group.group _ c.in-Group.inner c.deref_mut.result.now c.in-Group.is c.in-Group.rep-is c.in-Group.group-is is c.requires.ends,
+    )
 
 pub end_inner-behind-requires : goal.end_inner-behind-requires
 end_inner-behind-requires t c =

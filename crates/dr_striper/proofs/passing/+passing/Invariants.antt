@@ -21,7 +21,7 @@ decreases-stripe_inner g l = suc (size_each (shapes_view l.inner.now))
 abbrev pub invariant-stripe_group-branches : goal.invariant-stripe_group-branches
 invariant-stripe_group-branches g l =
     (onto_twigs (map twig_view (take l.number l.branches)) (added_from l.number (g.H.Held.shows l.held) l.level l.definition l.repetition (before l.above) (twigs_view (drop l.number l.branches)))
-      ≡ added.inside_added (g.H.Held.shows l.held) l.level l.definition l.repetition (before l.above) (twigs_view l.initial.branches))
+    ≡ added.inside_added (g.H.Held.shows l.held) l.level l.definition l.repetition (before l.above) (twigs_view l.initial.branches))
     × (drop l.number l.branches ≡ drop l.number l.initial.branches)
     × (shapes_view l.branches ≡ shapes_view l.initial.branches)
     × (backs l.kept l.branches ≡ backs l.kept l.initial.branches)
@@ -30,8 +30,8 @@ invariant-stripe_group-branches g l =
 abbrev pub invariant-stripe_inner-instances : goal.invariant-stripe_inner-instances
 invariant-stripe_inner-instances g l =
     (added.regrown (rep_view l.fn.rep) l.group.seen (added.later_added (g.H.Held.lists l.rest) l.below l.reached (nulls l.group.levels.items) (twigs_view l.inner))
-      ≡ added.field_added (instance (g.H.Held.shows l.fn.first) (g.H.Held.lists l.fn.later)) l.fn.level l.fn.definition l.fn.repetition (before l.fn.above)
-        (added.group (rep_view l.fn.rep) l.fn.group.seen (nulls l.fn.group.levels.items) (twigs_view l.fn.inner)))
+    ≡ added.field_added (instance (g.H.Held.shows l.fn.first) (g.H.Held.lists l.fn.later)) l.fn.level l.fn.definition l.fn.repetition (before l.fn.above)
+    (added.group (rep_view l.fn.rep) l.fn.group.seen (nulls l.fn.group.levels.items) (twigs_view l.fn.inner)))
     × LaterReady l.below l.reached (nulls l.group.levels.items) (g.H.Held.lists l.rest) (shapes_view l.inner) (twigs_view l.inner)
     × (shapes_view l.inner ≡ shapes_view l.fn.inner)
     × (group_back (rep_view l.fn.rep) l.fn.kept l.group l.inner ≡ group_back (rep_view l.fn.rep) l.fn.kept l.fn.group l.fn.inner)

@@ -34,11 +34,13 @@ push_first-requires-clause-takes g c =
 
 pub values-init : goal.values-init
 values-init g c =
-    let f = column_form c.args.leaf.now.column in
-    (ap (λ ts. added.values_added c.level_below-below.result c.definition_below-reached.result ts (g.H.Held.lists c.args.later))
-      (c.in_ok-push_first.ensures.column ∙ ap (λ v. grown c.args.leaf.now.seen (column_view c.args.leaf.now.column) (before c.args.above.now) ++ triplet c.args.repetition c.definition_below-reached.result v ∷ []) c.value.ensures),
-    c.push_first.ensures.seen, c.push_first.ensures.form,
-    subst (λ m. AllTaken f (each_later (instance_column [] m c.definition_below-reached.result) m (g.H.Held.lists c.args.later))) (sym c.level_below-below.ensures)
-      (subst (λ e. AllTaken f (each_later (instance_column [] (c.args.level + repetition_count (rep_view c.args.rep)) e) (c.args.level + repetition_count (rep_view c.args.rep)) (g.H.Held.lists c.args.later))) (sym c.definition_below-reached.ensures)
-        (leaf_later (rep_view c.args.rep) (column_form c.args.leaf.now.column) c.args.level c.args.definition c.args.repetition (before c.args.above.now) (g.H.Held.shows c.args.first) (g.H.Held.lists c.args.later) c.args.leaf.now.seen (column_view c.args.leaf.now.column) c.requires.ready)),
-    ap₂ (added.leaf (rep_view c.args.rep)) c.push_first.ensures.kept_seen c.push_first.ensures.kept_own)
+    let f = column_form c.args.leaf.now.column in (
+      ap (λ ts. added.values_added c.level_below-below.result c.definition_below-reached.result ts (g.H.Held.lists c.args.later))
+          (c.in_ok-push_first.ensures.column ∙ ap (λ v. grown c.args.leaf.now.seen (column_view c.args.leaf.now.column) (before c.args.above.now) ++ triplet c.args.repetition c.definition_below-reached.result v ∷ []) c.value.ensures),
+      c.push_first.ensures.seen,
+      c.push_first.ensures.form,
+      subst (λ m. AllTaken f (each_later (instance_column [] m c.definition_below-reached.result) m (g.H.Held.lists c.args.later))) (sym c.level_below-below.ensures)
+          (subst (λ e. AllTaken f (each_later (instance_column [] (c.args.level + repetition_count (rep_view c.args.rep)) e) (c.args.level + repetition_count (rep_view c.args.rep)) (g.H.Held.lists c.args.later))) (sym c.definition_below-reached.ensures)
+          (leaf_later (rep_view c.args.rep) (column_form c.args.leaf.now.column) c.args.level c.args.definition c.args.repetition (before c.args.above.now) (g.H.Held.shows c.args.first) (g.H.Held.lists c.args.later) c.args.leaf.now.seen (column_view c.args.leaf.now.column) c.requires.ready)),
+      ap₂ (added.leaf (rep_view c.args.rep)) c.push_first.ensures.kept_seen c.push_first.ensures.kept_own,
+    )

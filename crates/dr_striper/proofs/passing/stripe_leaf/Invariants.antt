@@ -14,7 +14,7 @@ use Rattle.dr_striper.proofs.passing.stripe_leaf.Given as goal
 abbrev pub invariant-values : goal.invariant-values
 invariant-values g l =
     (values_added l.below l.reached (column_view l.leaf.column) (g.H.Held.lists l.rest)
-      ≡ values_added l.below l.reached (grown l.fn.leaf.seen (column_view l.fn.leaf.column) (before l.fn.above) ++ triplet l.fn.repetition l.reached (value_of (g.H.Held.shows l.fn.first)) ∷ []) (g.H.Held.lists l.fn.later))
+    ≡ values_added l.below l.reached (grown l.fn.leaf.seen (column_view l.fn.leaf.column) (before l.fn.above) ++ triplet l.fn.repetition l.reached (value_of (g.H.Held.shows l.fn.first)) ∷ []) (g.H.Held.lists l.fn.later))
     × (l.leaf.seen ≡ length l.fn.above)
     × (column_form l.leaf.column ≡ column_form l.fn.leaf.column)
     × AllTaken (column_form l.fn.leaf.column) (each_later (instance_column [] l.below l.reached) l.below (g.H.Held.lists l.rest))

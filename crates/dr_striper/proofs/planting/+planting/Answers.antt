@@ -7,9 +7,10 @@ use Rattle.dr_striper.proofs.MadeLemmas.{fresh_here, fresh_set, step_put}
 use Rattle.dr_striper.proofs.planting.+planting.Goals as goal
 
 pub put_path-put_one-requires : goal.put_path-put_one-requires
-put_path-put_one-requires t c =
-    (omega (arith, c.behind_first.ensures.shorter),
-      subst IsFresh (sym c.index_mut.ensures.value) (fresh_here _ c.make_room.new.branches.items _ c.in_ok-make_room.ensures.room c.in_ok-make_room.ensures.fresh))
+put_path-put_one-requires t c = (
+  omega (arith, c.behind_first.ensures.shorter),
+  subst IsFresh (sym c.index_mut.ensures.value) (fresh_here _ c.make_room.new.branches.items _ c.in_ok-make_room.ensures.room c.in_ok-make_room.ensures.fresh),
+)
 
 pub put_path-returns-in_ok-put_one-clause-shapes :
     goal.put_path-returns-in_ok-put_one-clause-shapes

@@ -19,6 +19,6 @@ returns-clause-columns c =
     let ss = shapes_view c.fields.branches.items in
     let bs = twigs_view c.fields.branches.items in
     let g : Grows (leaves_of c.args.fields.now) [] ss bs = made_grows c.args.fields.now ss bs c.requires
-        (sym (ap (λ ps. put_each (leaves_of ps) ss) (drop_all c.fields.number c.args.fields.now (omega (arith, c.fields-test.false, c.fields.auto.number-end)))) ∙ c.fields.invariant.1)
-        c.fields.invariant.0 in
+    (sym (ap (λ ps. put_each (leaves_of ps) ss) (drop_all c.fields.number c.args.fields.now (omega (arith, c.fields-test.false, c.fields.auto.number-end)))) ∙ c.fields.invariant.1)
+    c.fields.invariant.0 in
     made_empty c.args.fields.now ss bs g.1 c.fields.invariant.0

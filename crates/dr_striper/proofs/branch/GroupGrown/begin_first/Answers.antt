@@ -15,8 +15,8 @@ returns-clause-levels c =
     let u : ℕ = length c.args.above.now - 1 in
     let n : ℕ = c.mark.new.self.seen in
     let e : nulls c.take_over.new.levels.items ≡ grown s.seen (nulls s.levels.items) (nulls (take u c.args.above.now)) =
-        ap nulls c.in_ok-take_over.ensures.levels
-        ∙ map-append null_of c.mark.new.self.levels.items (take (u - n) (drop n c.args.above.now))
-        ∙ ap₂ (λ (v : Vec Levels Global) (k : ℕ). nulls v.items ++ nulls (take (u - k) (drop k c.args.above.now))) c.mark.ensures.levels c.mark.ensures.same
-        ∙ ap (λ ts. nulls s.levels.items ++ ts) (nulls-between s.seen u c.args.above.now c.requires.seen) in
+    ap nulls c.in_ok-take_over.ensures.levels
+    ∙ map-append null_of c.mark.new.self.levels.items (take (u - n) (drop n c.args.above.now))
+    ∙ ap₂ (λ (v : Vec Levels Global) (k : ℕ). nulls v.items ++ nulls (take (u - k) (drop k c.args.above.now))) c.mark.ensures.levels c.mark.ensures.same
+    ∙ ap (λ ts. nulls s.levels.items ++ ts) (nulls-between s.seen u c.args.above.now c.requires.seen) in
     added_on_ok c.push_pair.result _ _ _ _ c.push_pair.ensures.levels e

@@ -12,7 +12,7 @@ returns-clause-column c =
     let s = c.args.self.now in
     let u : ℕ = length c.args.above.now - 1 in
     let e : column_view c.take_over.new.column ≡ grown s.seen (column_view s.column) (nulls (take u c.args.above.now)) =
-        c.in_ok-take_over.ensures.triplets
-        ∙ ap₂ (λ (v : Column) (k : ℕ). column_view v ++ nulls (take (u - k) (drop k c.args.above.now))) c.mark.ensures.column c.mark.ensures.same
-        ∙ ap (λ ts. column_view s.column ++ ts) (nulls-between s.seen u c.args.above.now c.requires.seen) in
+    c.in_ok-take_over.ensures.triplets
+    ∙ ap₂ (λ (v : Column) (k : ℕ). column_view v ++ nulls (take (u - k) (drop k c.args.above.now))) c.mark.ensures.column c.mark.ensures.same
+    ∙ ap (λ ts. column_view s.column ++ ts) (nulls-between s.seen u c.args.above.now c.requires.seen) in
     added_on_ok c.push.result _ _ _ _ c.push.ensures.triplet e
