@@ -28,6 +28,8 @@ pub mod FileLemmas
 -- what lies behind the columns of the first records, and what is left of a file where they were taken
 pub mod FrontLemmas
 pub mod RestLemmas
+-- columns that are there as a whole
+pub mod WholeLemmas
 -- stretch by stretch
 pub mod UnderwayLemmas
 -- what reading leaves asks of a link

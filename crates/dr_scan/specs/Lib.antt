@@ -21,3 +21,5 @@ pub mod Chunked
 pub mod Rests
 -- a law, proved on a law function of src/
 pub mod ScanLaws
+-- columns that are there as a whole
+pub mod Wholes

@@ -16,3 +16,11 @@ IsOfColumns s p cs rows x = (R : List Node) × HasColumns s.fields (paths_of_lea
 -- no such records have these columns
 abbrev pub NoneHasLeaves : Schema → Plan → List (List Triplet) → ℕ → Type 0
 NoneHasLeaves s p cs rows = NoneHas s.fields (paths_of_leaves (plan_leaves p)) cs rows
+
+-- some records have these columns of a plan's leaves
+abbrev pub HaveColumns : Schema → Plan → List (List Triplet) → ℕ → Type 0
+HaveColumns s p cs rows = (R : List Node) × HasColumns s.fields (paths_of_leaves (plan_leaves p)) cs rows R
+
+-- it is a plan's partial of whatever records have these columns
+abbrev pub IsOfAll : Schema → Plan → List (List Triplet) → ℕ → Partial → Type 0
+IsOfAll s p cs rows x = (R : List Node) → HasColumns s.fields (paths_of_leaves (plan_leaves p)) cs rows R → x ≡ partial_of s.fields (planned_query (plan_view p)) R

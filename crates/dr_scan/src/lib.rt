@@ -11,6 +11,7 @@ pub mod laws;
 mod leaf_stream;
 mod leaf_streams;
 mod making;
+mod of_columns;
 mod opened;
 mod paths;
 mod rest;
@@ -23,5 +24,6 @@ mod take_chunks;
 
 pub use fault::file_fault;
 pub use file_columns::{FileColumns, read_file_columns};
+pub use of_columns::partial_of_columns;
 pub use scanning::scan;
 pub use tablet::{Scanned, scan_tablet};

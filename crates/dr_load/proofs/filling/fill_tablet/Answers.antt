@@ -11,8 +11,8 @@ use Rattle.dr_striper.proofs.SchemaLeafLemmas.{leaves_of_schema}
 use Rattle.dr_load.proofs.FillLemmas.{fills_none, fills_more, fill_refuses, fill_accepts, fill_fails, reader_stops, reader_takes, err_is, err_equal, record_fits}
 use Rattle.dr_load.proofs.filling.fill_tablet.Goals as goal
 
-pub new-striper-requires : goal.new-striper-requires
-new-striper-requires g c = leaves_of_schema (fields_of c.args.records.now) _ c.requires.leaves
+pub new-requires : goal.new-requires
+new-requires g c = leaves_of_schema (fields_of c.args.records.now) _ c.requires.leaves
 
 pub lines-init : goal.lines-init
 lines-init g c = record {

@@ -7,8 +7,8 @@ use Rattle.dr_striper.proofs.SchemaLeafLemmas.{leaves_of_schema}
 use Rattle.dr_session.proofs.KeptLemmas.{kept_columns_fit, kept_have_columns, file_is, none_kept, on_ok}
 use Rattle.dr_session.proofs.kept.Kept.file.Goals as goal
 
-pub new-next-requires : goal.new-next-requires
-new-next-requires c = leaves_of_schema (schema_view c.args.schema.now).fields _ c.requires.kept.1.fields_are
+pub new-requires : goal.new-requires
+new-requires c = leaves_of_schema (schema_view c.args.schema.now).fields _ c.requires.kept.1.fields_are
 
 pub write_file_as-requires : goal.write_file_as-requires
 write_file_as-requires c =

@@ -4,8 +4,8 @@ use Rattle.dr_striper.proofs.SchemaLeafLemmas.{leaves_of_schema}
 use Rattle.dr_session.proofs.KeptLemmas.{none_kept}
 use Rattle.dr_session.proofs.kept.Kept.new.Goals as goal
 
-pub new-striper-requires : goal.new-striper-requires
-new-striper-requires c = leaves_of_schema (schema_view c.args.schema.now).fields _ c.requires
+pub new-requires : goal.new-requires
+new-requires c = leaves_of_schema (schema_view c.args.schema.now).fields _ c.requires
 
 pub returns : goal.returns
 returns c = none_kept (schema_view c.args.schema.now) _ c.requires c.in_ok-striper.ensures.leaves c.in_ok-striper.ensures.columns refl

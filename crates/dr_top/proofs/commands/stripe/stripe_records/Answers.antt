@@ -19,8 +19,8 @@ use Rattle.dr_top.proofs.OutcomeLemmas.{err_is}
 use Rattle.dr_top.proofs.StripeLemmas.{more_columns, paths_from_leaves}
 use Rattle.dr_top.proofs.commands.stripe.stripe_records.Goals as goal
 
-pub new-striper-requires : goal.new-striper-requires
-new-striper-requires g c = (fields_view c.args.schema.now.fields.items, ap (λ b. b && true) c.requires)
+pub new-requires : goal.new-requires
+new-requires g c = (fields_view c.args.schema.now.fields.items, ap (λ b. b && true) c.requires)
 
 pub lines-init : goal.lines-init
 lines-init g c =
