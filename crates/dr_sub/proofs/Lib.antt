@@ -12,3 +12,5 @@ pub mod NameLemmas
 pub mod SchemaLemmas
 -- queries over the results of others
 pub mod NestedLemmas
+-- the plans of a text
+pub mod TextLemmas

@@ -10,3 +10,5 @@ pub mod ResultNames
 pub mod ResultSchemas
 -- plans of queries over the results of others
 pub mod NestedPlans
+-- the plans of a text, and why there are none
+pub mod Texts

@@ -14,13 +14,17 @@ mod nested_plan;
 mod ordering;
 mod placed;
 mod reading;
+mod refusal;
 mod schema;
 mod striping;
+mod text;
 
 pub use binding::bind_nested;
 pub use fault::{ResultFault, SubFault};
 pub use nested_fault::{NestedFault, NestedProblem};
 pub use nested_plan::NestedPlan;
 pub use placed::{Placed, PlacedList, Spot};
+pub use refusal::{TextFault, TextProblem};
 pub use schema::result_schema;
 pub use striping::stripe_objects;
+pub use text::read_nested;
