@@ -11,7 +11,9 @@ use Rattle.dr_lines.specs.Cutting.{pending}
 use Rattle.dr_input.specs.Taken.{HasTaken}
 use Rattle.dr_input.specs.declared.fault.InputFault.{InputFault}
 use Rattle.dr_input.specs.Records.{fields_of, number_of, left_of}
+use Rattle.dr_striper.specs.Leaves.{is_leaf}
 use Rattle.dr_striper.specs.Stripers.{striped, striped_paths, fits_leaf}
+use Rattle.dr_striper.specs.Striping.{leaves_of}
 use Rattle.dr_striper.proofs.FitLemmas.{record_fits}
 use Rattle.dr_top.specs.Records.{AreColumns, HasColumns, HasRead}
 use Rattle.dr_top.proofs.InputLemmas.{read_start, read_more, read_all, all_ended, reader_stops}
@@ -20,7 +22,10 @@ use Rattle.dr_top.proofs.StripeLemmas.{more_columns, paths_from_leaves}
 use Rattle.dr_top.proofs.commands.stripe.stripe_records.Goals as goal
 
 pub new-requires : goal.new-requires
-new-requires g c = (fields_view c.args.schema.now.fields.items, ap (λ b. b && true) c.requires)
+new-requires g c =
+    let fs = fields_view c.args.schema.now.fields.items in
+    let one : leaves_of c.from_ref.result.now ≡ path_view c.args.field.now ∷ [] = ap leaves_of c.from_ref.ensures.value in
+    (fs, ap (list_all (is_leaf fs)) one ∙ ap (λ b. b && true) c.requires)
 
 pub lines-init : goal.lines-init
 lines-init g c =
