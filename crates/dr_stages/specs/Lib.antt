@@ -1,0 +1,2 @@
+-- queries that are bound one over another
+pub mod Stages
