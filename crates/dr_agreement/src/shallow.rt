@@ -9,8 +9,8 @@ ghost use Rattle.dr_agreement.specs.Alone.{each_may_stand, may_stand, shallow_le
 
 use dr_levels::{Levels, PIECE, part, put_both};
 
-/// The greatest levels of a leaf with at most three repeated fields, and the definition levels that the triplets have at
-/// least between which the repetition levels 1, 2 and 3 stand.
+/// The greatest levels of a leaf with at most three repeated fields, and the definition levels that the triplets have
+/// at least between which the repetition levels 1, 2 and 3 stand.
 #[derive(Clone, Copy)]
 pub(crate) struct Shallow {
     pub(crate) greatest: u8,

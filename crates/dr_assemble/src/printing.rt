@@ -77,8 +77,8 @@ fn push_instance<'a>(
     }
 }
 
-/// Appends so many instances of a repeated field, separated by commas, each of the first pieces of what the earlier ones
-/// left.
+/// Appends so many instances of a repeated field, separated by commas, each of the first pieces of what the earlier
+/// ones left.
 #[cycle(printing)]
 fn push_each<'a>(
     alloc: Global,

@@ -1,9 +1,9 @@
 -- When records have columns at several leaves, by computation: leaves that agree on their fronts.
-use Rattle.std.specs.Prelude.{◌≡◌, ℕ, List, [], ◌∷◌, true, false, refl}
+use Rattle.std.specs.Prelude.{◌≡◌, ℕ, List, [], ◌∷◌, ◌++◌, true, false, refl}
 use Rattle.std.specs.List.{list_all}
 use Rattle.std.specs.Str.{is_utf8, chars}
-use Rattle.dr_meaning.specs.Schema.{Repetition, required, optional, repeated}
-use Rattle.dr_meaning.specs.Path.{Step}
+use Rattle.dr_meaning.specs.Schema.{Fields, Repetition, required, optional, repeated}
+use Rattle.dr_meaning.specs.Path.{Step, is_leaf_path}
 use Rattle.dr_meaning.specs.Record.{Node, is_record}
 use Rattle.dr_meaning.specs.Column.{Triplet, column}
 use Rattle.dr_meaning.proofs.WorkedSchemas.{document}
@@ -71,3 +71,14 @@ neighbours_said law rows c have alone same = law document (url ∷ []) rows c la
 pub together_said : ColumnsTogether → (rows : ℕ) (c : List Step → List Triplet) → HaveColumns document (url ∷ []) rows c → HaveColumns document (code ∷ []) rows c → HaveColumns document (country ∷ []) rows c
     → EachAgrees c (url ∷ []) (code ∷ country ∷ []) → HaveColumns document (url ∷ code ∷ country ∷ []) rows c
 together_said law rows c one two three agree = law document url (code ∷ country ∷ []) rows c refl (one, (two, (three, tt))) agree
+
+-- that the new leaf isn't on the way to its neighbour is asked, whatever the two paths are
+pub neighbour_asked : NeighboursHaveRecords → (fs : Fields) (f p q : List Step) (s t : Step) (c : List Step → List Triplet) → is_leaf_path fs (f ++ s ∷ p) ≡ true → is_leaf_path fs (f ++ t ∷ q) ≡ true
+    → none_through f s ((f ++ t ∷ q) ∷ []) ≡ true → HaveColumns fs ((f ++ t ∷ q) ∷ []) 2 c → HaveColumns fs ((f ++ s ∷ p) ∷ []) 2 c → front_outline f (c (f ++ s ∷ p)) ≡ front_outline f (c (f ++ t ∷ q))
+    → HaveColumns fs ((f ++ s ∷ p) ∷ (f ++ t ∷ q) ∷ []) 2 c
+neighbour_asked law fs f p q s t c leaf other apart have alone same = law fs [] 2 c f p q s t leaf other refl have alone apart same
+
+-- and so is that each path is a leaf's, the first one's too
+pub leaves_asked : ColumnsTogether → (fs : Fields) (p q : List Step) (c : List Step → List Triplet) → list_all (is_leaf_path fs) (p ∷ q ∷ []) ≡ true → HaveColumns fs (p ∷ []) 2 c → HaveColumns fs (q ∷ []) 2 c
+    → AgreesAmong c (p ∷ []) q → HaveColumns fs (p ∷ q ∷ []) 2 c
+leaves_asked law fs p q c leaves one two agree = law fs p (q ∷ []) 2 c leaves (one, (two, tt)) (agree, tt)

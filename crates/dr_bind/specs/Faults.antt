@@ -1,7 +1,7 @@
 -- What the faults of this crate stand for.
 use Rattle.std.specs.Prelude.{◌≡◌, ℕ, List, Result, Err, ⊤}
 use Rattle.dr_meaning.specs.Query as meant
-use Rattle.dr_meaning.specs.Refusals.{QueryRefusal, text_refused, binding_refused, query_problem_name, bind_problem_name}
+use Rattle.dr_meaning.specs.Refusals.{QueryRefusal, in_query, text_refused, binding_refused, query_problem_name, bind_problem_name}
 use Rattle.dr_sql.specs.Faults as text
 use Rattle.dr_sql.specs.declared.fault.QueryFault.{QueryFault as TextFault}
 use Rattle.dr_resolve.specs.Faults as binding
@@ -12,7 +12,7 @@ use Rattle.dr_bind.specs.declared.fault.QueryFault.{QueryFault}
 -- a problem at a place
 abbrev pub refusal_of : ℕ → QueryProblem → QueryRefusal
 refusal_of place (QueryProblem.Text p) = text_refused (record { place = place; problem = text.problem_view p })
-refusal_of place (QueryProblem.Binding p) = binding_refused (record { place = place; problem = binding.problem_view p })
+refusal_of place (QueryProblem.Binding p) = binding_refused (record { place = place; problem = in_query (binding.problem_view p) })
 
 abbrev pub problem_name : QueryProblem → List ℕ
 problem_name (QueryProblem.Text p) = query_problem_name (text.problem_view p)

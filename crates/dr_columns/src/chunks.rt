@@ -175,8 +175,8 @@ impl<'p> Chunks<'p> {
         }
     }
 
-    /// Lends what is at hand of a leaf, in the place of another column of the leaf, so that more joins it. Nothing is at
-    /// hand of the leaf until it is taken back.
+    /// Lends what is at hand of a leaf, in the place of another column of the leaf, so that more joins it. Nothing is
+    /// at hand of the leaf until it is taken back.
     ///
     /// Errors: want of memory alone.
     pub fn lend(&mut self, leaf: usize, out: &mut Column) -> Result<Kept, NoMemory>

@@ -3,6 +3,8 @@ use Rattle.std.specs.Prelude.{◌≡◌, ℕ, List, [], ◌∷◌, ◌++◌, map
 use Rattle.std.proofs.Common.{ap, ap₂}
 use Rattle.std.specs.Str.{is_utf8, chars}
 use Rattle.std.specs.Fmt.{digits}
+use Rattle.json.specs.Print.{escape_byte}
+use Rattle.serde_json.proofs.OnLiterals.{serde_json_on_literals}
 use Rattle.dr_meaning.specs.SchemaText.{parse_schema, empty_group}
 use Rattle.dr_meaning.specs.Path.{Leaf, unknown_field, not_a_leaf}
 use Rattle.dr_meaning.specs.Schema.{field, required, leaf, int64_kind, no_fields}
@@ -11,21 +13,29 @@ use Rattle.dr_meaning.specs.JsonRecord.{record_of_line, missing_field, not_json}
 use Rattle.dr_meaning.specs.Lines.{no_record}
 use Rattle.dr_meaning.specs.Lines as line
 use Rattle.dr_meaning.specs.Automaton.{automaton_text}
-use Rattle.dr_meaning.specs.Parse.{parse_query, items, argument, whole_expression, syntax}
+use Rattle.dr_meaning.specs.Parse.{items as plain_items, keys, argument, whole_expression, syntax}
 use Rattle.dr_meaning.specs.Binding.{bind}
-use Rattle.dr_meaning.specs.Query.{Query}
-use Rattle.dr_meaning.specs.QueryLeaves.{query_leaves}
+use Rattle.dr_meaning.specs.Query as plain_query
+use Rattle.dr_meaning.specs.QueryLeaves as plain_leaves
+use Rattle.dr_meaning.specs.Lines.{records_of}
+use Rattle.dr_meaning.specs.Print.{record_text, result_text}
 use Rattle.dr_meaning.specs.Refusals as plainly
 use Rattle.dr_meaning.specs.Refusals.{QueryRefusal}
-use Rattle.dr_meaning.specs.Session.{SessionRefusal, Spoken, spoken, no_command, query_refused as session_query_refused}
+use Rattle.dr_sub_meaning.specs.Session.{SessionRefusal, Spoken, spoken, no_command, query_refused as session_query_refused}
 use Rattle.dr_meaning.specs.Stripe.{stripe}
 use Rattle.dr_meaning.specs.Fsm.{fsm}
-use Rattle.dr_meaning.specs.Ask.{read_query, answer_text}
 use Rattle.dr_meaning.proofs.WorkedSchemas.{document_schema, document_text}
 use Rattle.dr_meaning.proofs.WorkedPaths.{projected_10, projected_20}
 use Rattle.dr_meaning.proofs.WorkedStripe.{doc_id_lines}
-use Rattle.dr_meaning.proofs.WorkedAsk.{first_answer}
 use Rattle.dr_meaning.proofs.WorkedRecords.{line_10, line_20, record_10, record_20, numbers}
+use Rattle.dr_sub_meaning.specs.ResultRecords.{result_fields}
+use Rattle.dr_sub_meaning.specs.ResultFaults.{result_schema}
+use Rattle.dr_sub_meaning.specs.Nested.{NestedQuery, answered, meaning, outer_fields, outer_records, query_leaves}
+use Rattle.dr_sub_meaning.specs.NestedParse.{parse_nested}
+use Rattle.dr_sub_meaning.specs.NestedBinding.{bind_nested}
+use Rattle.dr_sub_meaning.specs.NestedAsk.{ask, read_nested, nested_answer_text}
+use Rattle.dr_sub_meaning.proofs.WorkedCommand.{first_answer, a_nested_answer}
+use Rattle.dr_gen.specs.Generator.{record_of, line_of}
 use Rattle.dr_formats.specs.Page.{data_page_v1, data_page_v2}
 use Rattle.dr_formats.specs.Loading.{Put, Plan, load, load_taken, puts_of, leaf_refused, copies_refused}
 use Rattle.dr_formats.specs.TableFile.{parse_table, bad_head}
@@ -43,10 +53,15 @@ use Rattle.dr_commands.specs.Stripe.{stripe_meaning}
 use Rattle.dr_commands.specs.Fsm.{fsm_meaning}
 use Rattle.dr_commands.specs.ShowSchema.{show_schema_meaning}
 use Rattle.dr_commands.specs.Explain.{explain_meaning}
+use Rattle.dr_commands.specs.Trial.{trial_meaning}
 use Rattle.dr_commands.specs.Session.{session_meaning, session_outcome, spoken_outcome}
 
 abbrev url_count : List ℕ
 url_count = codes "SELECT COUNT(Name.Url) FROM Document"
+
+-- a query over the results of another, in order and cut
+abbrev nested_count : List ℕ
+nested_count = codes "SELECT n FROM (SELECT COUNT(Name.Url) WITHIN RECORD AS n FROM Document) ORDER BY n LIMIT 1"
 
 abbrev input : List ℕ
 input = line_10 ++ 10 ∷ (line_20 ++ 10 ∷ [])
@@ -110,6 +125,13 @@ automaton_is_printed = refl
 
 pub count_is_printed : at (ask_meaning (record { schema = codes "s"; rows = 1; serving = served_by 8; query = url_count })) document_text input ≡ done (codes "{\"f0_\":3}\n") []
 count_is_printed = ap plain first_answer
+
+pub nested_answer_is_printed : at (ask_meaning (record { schema = codes "s"; rows = 1; serving = served_by 8; query = nested_count })) document_text input ≡ done (codes "{\"n\":1}\n") []
+nested_answer_is_printed = ap plain a_nested_answer
+
+pub trial_is_printed : at (trial_meaning (record { seed = 0; records = 4; rows = 100000; serving = served_by 8 })) [] [] ≡ done (codes "{\"records\":4,\"codes\":6,\"urls\":4,\"forward\":51,\"last\":3}\n") []
+unfolding ask parse_schema read_nested parse_nested plain_items keys argument whole_expression bind_nested bind nested_answer_text answered meaning outer_fields outer_records plain_query.meaning records_of record_of_line is_utf8 chars serde_json_on_literals result_text line_of record_of record_text escape_byte digits
+trial_is_printed = refl
 
 pub schema_is_shown : at (show_schema_meaning (record { file = codes "f.parquet" })) [] [] ≡ looks_at (codes "f.parquet")
 schema_is_shown = refl
@@ -183,21 +205,26 @@ queried query table = at (query_meaning (record { table = codes "t"; serving = r
 
 pub query_scans : (tablets_in (queried url_count two_copies_text) ≡ both_tablets) × (leaf_names (queried url_count two_copies_text) ≡ (codes "Name" ∷ codes "Url" ∷ []) ∷ [])
     × (service_of (queried url_count two_copies_text) ≡ 3 ∷ 50 ∷ [])
-unfolding parse_table parse_schema read_query parse_query items argument whole_expression bind is_utf8 chars lib.Utf8.encode digits query_leaves
+unfolding parse_table parse_schema read_nested parse_nested plain_items keys argument whole_expression bind_nested bind is_utf8 chars lib.Utf8.encode digits query_leaves plain_leaves.query_leaves
 query_scans = (refl, refl, refl)
 
+-- of a query over the results of another the innermost reads the table
+pub nested_query_scans : (tablets_in (queried nested_count two_copies_text) ≡ both_tablets) × (leaf_names (queried nested_count two_copies_text) ≡ (codes "Name" ∷ codes "Url" ∷ []) ∷ [])
+unfolding parse_table parse_schema read_nested parse_nested plain_items keys argument whole_expression bind_nested bind result_schema result_fields is_utf8 chars lib.Utf8.encode digits query_leaves plain_leaves.query_leaves
+nested_query_scans = (refl, refl)
+
 -- what the query means on the records
-abbrev answer_of : Result Query QueryRefusal → List Node → List ℕ
-answer_of (Ok q) R = answer_text document_schema q R
+abbrev answer_of : Result NestedQuery QueryRefusal → List Node → List ℕ
+answer_of (Ok n) R = nested_answer_text document_schema n R
 answer_of (Err e) R = []
 
-pub answer_is_printed : (R : List Node) → text_of (queried url_count two_copies_text) R ≡ answer_of (read_query document_schema url_count) R
-unfolding parse_table parse_schema read_query parse_query items argument whole_expression bind is_utf8 chars lib.Utf8.encode digits
+pub answer_is_printed : (R : List Node) → text_of (queried url_count two_copies_text) R ≡ answer_of (read_nested document_schema url_count) R
+unfolding parse_table parse_schema read_nested parse_nested plain_items keys argument whole_expression bind_nested bind is_utf8 chars lib.Utf8.encode digits
 answer_is_printed R = refl
 
 -- the table comes before the query
 pub query_refuses : (queried (codes "SELECT") (codes "x") ≡ refused (table_refused bad_head) []) × (queried (codes "SELECT FROM Document") two_copies_text ≡ refused (query_refused (plainly.text_refused (record { place = 7; problem = syntax }))) [])
-unfolding parse_table parse_schema read_query parse_query items argument whole_expression is_utf8 chars lib.Utf8.encode digits
+unfolding parse_table parse_schema read_nested parse_nested plain_items keys argument whole_expression is_utf8 chars lib.Utf8.encode digits
 query_refuses = (refl, refl)
 
 -- ---- load

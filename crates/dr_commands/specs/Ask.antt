@@ -1,6 +1,6 @@
 -- `ask --schema F [--rows N] [--workers N] [--fan N] [--lag N] QUERY`: a query over the records of the input, loaded into a table in memory.
 use Rattle.std.specs.Prelude.{ℕ, true, false, List, Some, string_bytes}
-use Rattle.dr_meaning.specs.Ask as meant
+use Rattle.dr_sub_meaning.specs.NestedAsk as meant
 use Rattle.dr_commands.specs.Meaning.{Meaning, plain}
 use Rattle.dr_commands.specs.Serving.{ServingWords, serving_view}
 use Rattle.dr_commands.specs.declared.commands.ask.Ask.{Ask}

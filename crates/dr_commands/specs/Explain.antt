@@ -2,10 +2,10 @@
 use Rattle.std.specs.Prelude.{ℕ, false, List, Some, Result, Ok, Err, string_bytes}
 use Rattle.dr_meaning.specs.Schema.{Schema}
 use Rattle.dr_meaning.specs.SchemaText.{SchemaFault, parse_schema}
-use Rattle.dr_meaning.specs.Query.{Query}
-use Rattle.dr_meaning.specs.Ask.{read_query}
 use Rattle.dr_meaning.specs.Refusals.{QueryRefusal, CommandRefusal, schema_refused, query_refused}
-use Rattle.dr_partials.specs.RewritingText.{rewriting_text}
+use Rattle.dr_sub_meaning.specs.Nested.{NestedQuery}
+use Rattle.dr_sub_meaning.specs.NestedAsk.{read_nested}
+use Rattle.dr_sub_meaning.specs.NestedText.{nested_text}
 use Rattle.dr_commands.specs.Meaning.{Meaning, plain}
 use Rattle.dr_commands.specs.declared.commands.explain.Explain.{Explain}
 
@@ -19,12 +19,12 @@ explain_view e = record { schema = string_bytes e.schema; query = string_bytes e
 
 -- ---- what it means
 
-abbrev pub explain_query : Schema → Result Query QueryRefusal → Result (List ℕ) CommandRefusal
-explain_query s (Ok q) = Ok (rewriting_text s.fields q)
+abbrev pub explain_query : Schema → Result NestedQuery QueryRefusal → Result (List ℕ) CommandRefusal
+explain_query s (Ok n) = Ok (nested_text s.fields n)
 explain_query s (Err e) = Err (query_refused e)
 
 abbrev pub explain_schema : List ℕ → Result Schema SchemaFault → Result (List ℕ) CommandRefusal
-explain_schema query (Ok s) = explain_query s (read_query s query)
+explain_schema query (Ok s) = explain_query s (read_nested s query)
 explain_schema query (Err e) = Err (schema_refused e)
 
 -- the text that `explain` prints of a schema text and a query's text, or the first refusal: the schema, then the query

@@ -1,9 +1,8 @@
 -- `query --table F [--workers N] [--fan N] [--lag N] [--least P] QUERY`: a query over the records of a table.
 use Rattle.std.specs.Prelude.{ℕ, false, List, [], Some, Result, Ok, Err, string_bytes}
-use Rattle.dr_meaning.specs.Query as meant
-use Rattle.dr_meaning.specs.QueryLeaves.{query_leaves}
-use Rattle.dr_meaning.specs.Ask.{read_query, answer_text}
 use Rattle.dr_meaning.specs.Refusals.{QueryRefusal}
+use Rattle.dr_sub_meaning.specs.Nested.{NestedQuery, query_leaves}
+use Rattle.dr_sub_meaning.specs.NestedAsk.{read_nested, nested_answer_text}
 use Rattle.dr_formats.specs.TableFile.{Table, TableFault, parse_table}
 use Rattle.dr_reading.specs.Scan.{Scan, tablets_of}
 use Rattle.dr_commands.specs.Refusals.{table_refused, query_refused}
@@ -24,20 +23,20 @@ query_view q = record { table = string_bytes q.table; serving = serving_view q.s
 -- ---- what it means: that looks neither at the fan nor at the lag, so what is printed doesn't depend on them
 
 -- the scan of a table for the leaves that a query uses: what is printed is what the query means on the records
-abbrev pub query_scan : Table → meant.Query → Scan
-query_scan t q = record {
+abbrev pub query_scan : Table → NestedQuery → Scan
+query_scan t n = record {
   schema = t.schema;
-  leaves = query_leaves t.schema.fields q;
+  leaves = query_leaves t.schema.fields n;
   tablets = tablets_of t;
-  text = answer_text t.schema q;
+  text = nested_answer_text t.schema n;
 }
 
-abbrev pub query_read : (workers least : ℕ) → Table → Result meant.Query QueryRefusal → Outcome
-query_read workers least t (Ok q) = serves (query_scan t q) workers least
+abbrev pub query_read : (workers least : ℕ) → Table → Result NestedQuery QueryRefusal → Outcome
+query_read workers least t (Ok n) = serves (query_scan t n) workers least
 query_read workers least t (Err e) = refused (query_refused e) []
 
 abbrev pub query_table : (workers least : ℕ) → List ℕ → Result Table TableFault → Outcome
-query_table workers least query (Ok t) = query_read workers least t (read_query t.schema query)
+query_table workers least query (Ok t) = query_read workers least t (read_nested t.schema query)
 query_table workers least query (Err e) = refused (table_refused e) []
 
 abbrev pub query_meaning : QueryWords → Meaning

@@ -4,7 +4,7 @@ use Rattle.dr_meaning.specs.SchemaText.{SchemaFault}
 use Rattle.dr_meaning.specs.Path.{PathFault}
 use Rattle.dr_meaning.specs.Lines as line
 use Rattle.dr_meaning.specs.Refusals as plain
-use Rattle.dr_meaning.specs.Session.{SessionRefusal, session_refusal_text}
+use Rattle.dr_sub_meaning.specs.Session.{SessionRefusal, session_refusal_text}
 use Rattle.dr_formats.specs.TableFile.{TableFault}
 use Rattle.dr_formats.specs.Loading.{WordsRefusal}
 use Rattle.dr_formats.specs.Reports.{table_refusal_text, words_refusal_text}

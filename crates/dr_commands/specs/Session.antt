@@ -3,7 +3,7 @@
 use Rattle.std.specs.Prelude.{ℕ, true, false, List, [], Option, Some, None, Result, Ok, Err, string_bytes}
 use Rattle.dr_meaning.specs.Schema.{Schema}
 use Rattle.dr_meaning.specs.SchemaText.{SchemaFault, parse_schema}
-use Rattle.dr_meaning.specs.Session.{SessionRefusal, Spoken, spoken}
+use Rattle.dr_sub_meaning.specs.Session.{SessionRefusal, Spoken, spoken}
 use Rattle.dr_commands.specs.Refusals.{schema_refused, session_refused}
 use Rattle.dr_commands.specs.Meaning.{Meaning, Outcome, done, refused, stops}
 use Rattle.dr_commands.specs.declared.commands.session.Session.{Session}

@@ -1,6 +1,6 @@
 -- `trial --seed N --records N [--rows N] [--workers N] [--fan N] [--lag N]`: a fixed query over made records, loaded into a table in memory.
 use Rattle.std.specs.Prelude.{ℕ, false, None}
-use Rattle.dr_meaning.specs.Ask as meant
+use Rattle.dr_sub_meaning.specs.NestedAsk as meant
 use Rattle.dr_gen.specs.Document.{document_text, trial_query}
 use Rattle.dr_gen.specs.Generator.{lines_from}
 use Rattle.dr_commands.specs.Meaning.{Meaning, plain}

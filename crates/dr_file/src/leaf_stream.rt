@@ -115,8 +115,8 @@ impl<'f> LeafStream<'f> {
     /// Appends the next triplets to a column of the leaf, at most a batch, and answers how many: 0 only where all were
     /// given.
     ///
-    /// Errors: a chunk of the leaf doesn't lie before the footer, or doesn't spell a column of its row group's rows; the
-    /// link failed; want of memory. The column is then as it was.
+    /// Errors: a chunk of the leaf doesn't lie before the footer, or doesn't spell a column of its row group's rows;
+    /// the link failed; want of memory. The column is then as it was.
     pub(crate) fn next<L: Link>(
         &mut self,
         alloc: Global,

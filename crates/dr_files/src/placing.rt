@@ -205,8 +205,8 @@ where
     }
 }
 
-// Claims a file that was just made at a path: whether no other program took it for one that is left, and has removed it.
-// Where the system lets no file be claimed, none does that.
+// Claims a file that was just made at a path: whether no other program took it for one that is left, and has removed
+// it. Where the system lets no file be claimed, none does that.
 fn is_claimed<R: Files>(files: &R, file: &R::File, path: &str) -> io::Result<bool>
 where
     R::File: Claim,

@@ -7,12 +7,8 @@ use Rattle.serde_json.proofs.OnLiterals.{serde_json_on_literals}
 use Rattle.dr_meaning.specs.SchemaText.{parse_schema}
 use Rattle.dr_meaning.specs.JsonRecord.{record_of_line}
 use Rattle.dr_meaning.specs.Lines.{records_of}
-use Rattle.dr_meaning.specs.Parse.{parse_query, items, argument, whole_expression}
-use Rattle.dr_meaning.specs.Binding.{bind}
-use Rattle.dr_meaning.specs.Query.{meaning}
-use Rattle.dr_meaning.specs.Ask.{ask, read_query, answer_text}
-use Rattle.dr_meaning.specs.Print.{record_text, result_text}
-use Rattle.dr_gen.specs.Document.{document_fields, document_text, trial_query}
+use Rattle.dr_meaning.specs.Print.{record_text}
+use Rattle.dr_gen.specs.Document.{document_fields, document_text}
 use Rattle.dr_gen.specs.Generator.{record_of, line_of, lines_from}
 
 pub document_reads : parse_schema document_text ≡ Ok (record { name = codes "Document"; fields = document_fields })
@@ -40,11 +36,6 @@ past_one_hundred = refl
 pub far_lines : lines_from 1000000003 2 ≡ codes "{\"DocId\":1000000003,\"Links\":{\"Backward\":[1000000004,1000000005,1000000006],\"Forward\":[10000000030,10000000031,10000000032]},\"Name\":[{\"Language\":[{\"Code\":\"c3\"}],\"Url\":\"http://u/1000000003\"},{\"Language\":[{\"Code\":\"c4\",\"Country\":\"n3\"},{\"Code\":\"c5\"}]},{\"Language\":[],\"Url\":\"http://u/1000000005\"}]}\n{\"DocId\":1000000004,\"Links\":{\"Backward\":[],\"Forward\":[10000000040,10000000041,10000000042,10000000043]},\"Name\":[]}\n"
 unfolding line_of record_of record_text escape_byte digits
 far_lines = refl
-
--- what a trial of four records prints, and of none
-pub a_trial : ask 100000 document_text trial_query (lines_from 0 4) ≡ Ok (codes "{\"records\":4,\"codes\":6,\"urls\":4,\"forward\":51,\"last\":3}\n")
-unfolding ask parse_schema read_query parse_query items argument whole_expression bind answer_text records_of record_of_line is_utf8 chars serde_json_on_literals result_text meaning line_of record_of record_text escape_byte digits
-a_trial = refl
 
 -- a line is read as the record that it was made of
 pub a_line_reads : records_of document_fields 10 (lines_from 5 3) ≡ Ok (record_of 5 ∷ record_of 6 ∷ record_of 7 ∷ [])

@@ -9,8 +9,8 @@ use std::alloc::Global;
 /// How many places there are.
 const PLACES: usize = 256;
 
-/// By a place that a key tuple tells, the number of the group of this place that was found last. Any number will do: the
-/// group's key tuple is compared.
+/// By a place that a key tuple tells, the number of the group of this place that was found last. Any number will do:
+/// the group's key tuple is compared.
 #[derive(Drop)]
 pub struct Hints {
     numbers: Vec<u32>,

@@ -19,8 +19,8 @@ pub struct Link {
 }
 
 /// The numbers from 0 on, each with a hash. The numbers of a bucket of hashes are a chain, the last one first: a head,
-/// and the next of a number, is one more than a number, or 0 at the end. No chain has more than 16 numbers, whatever the
-/// hashes.
+/// and the next of a number, is one more than a number, or 0 at the end. No chain has more than 16 numbers, whatever
+/// the hashes.
 #[derive(Drop)]
 pub struct Index {
     pub(crate) heads: Vec<u32>,

@@ -24,9 +24,9 @@ pub fn is_plain_record(fields: &[Field], members: &[Member<'_>]) -> bool
     }
 }
 
-/// The size of the node of an object's members. Members mostly stand in schema order: so each is looked for first behind
-/// the one that was found last. Where as many fields have a member as there are members, all keys are known, and none is
-/// there twice.
+/// The size of the node of an object's members. Members mostly stand in schema order: so each is looked for first
+/// behind the one that was found last. Where as many fields have a member as there are members, all keys are known, and
+/// none is there twice.
 #[cycle(plain)]
 fn plain_node(fields: &[Field], members: &[Member<'_>]) -> Option<Size>
     requires { is_group (fields_view fields.now) ≡ true }

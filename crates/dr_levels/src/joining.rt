@@ -48,8 +48,8 @@ pub fn repeat_levels(levels: &mut Vec<Levels>, same: Levels, count: usize) -> Re
 /// How many levels are looked at one by one.
 const NEAR: usize = 16;
 
-/// How many of a few places have a value, where this is the leaf's greatest definition level. All are looked at, many at
-/// once.
+/// How many of a few places have a value, where this is the leaf's greatest definition level. All are looked at, many
+/// at once.
 #[inline(always)]
 fn count_both(greatest: u8, both: &[u16]) -> u8
     requires { length both.now ≤ 224 }

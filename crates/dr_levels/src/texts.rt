@@ -154,8 +154,8 @@ impl Texts {
     }
 }
 
-/// Whether a buffer of so many bytes is longer than the texts at places of it, each behind a length of four bytes. Texts
-/// that lie over one another may have a length that wraps: then either way of copying them does.
+/// Whether a buffer of so many bytes is longer than the texts at places of it, each behind a length of four bytes.
+/// Texts that lie over one another may have a length that wraps: then either way of copying them does.
 fn is_longer(bytes: usize, places: &[TextPlace]) -> bool {
     let mut length = 0usize;
     'places: for place in places {

@@ -18,8 +18,7 @@ pub mod WorkedSyntaxFaults
 pub mod WorkedBinding
 pub mod WorkedBindingFaults
 pub mod WorkedTexts
-pub mod WorkedAsk
-pub mod WorkedSession
+pub mod WorkedLines
 pub mod WorkedStripe
 -- lemmas of the laws of schema text
 -- lemmas of the laws of query syntax

@@ -1,4 +1,4 @@
--- The definitions, from schemas to the first command, in the order in which they build on one another.
+-- The definitions, from schemas to the first commands, in the order in which they build on one another.
 -- words on lists and texts
 pub mod Lists
 -- schemas: trees of named fields; their text; paths and levels
@@ -26,14 +26,12 @@ pub mod QueryGrammar
 -- binding a query's names by a schema, with the type of each expression; or the first fault
 pub mod BoundExpression
 pub mod Binding
--- input lines; what commands refuse, and the commands
+-- input lines; what commands refuse; a query that stands alone; commands
 pub mod Lines
 pub mod Refusals
 pub mod Ask
 pub mod Stripe
 pub mod Fsm
--- what each line of a session comes to, and what all lines print
-pub mod Session
 -- laws, each proved on a law function of src/
 pub mod SchemaTextLaws
 pub mod TokenLaws

@@ -8,10 +8,25 @@ use Rattle.dr_meaning.specs.Parse as parse
 use Rattle.dr_meaning.specs.BoundExpression as binding
 use Rattle.dr_meaning.specs.Lines.{LineFault, line_too_long, too_many_records, no_record, Refusal}
 
+-- what binding refuses of queries over one another: that one of them has no meaning; that no item of the outermost object has the name by which
+-- the result is to go; that an inner query gives no records, or is put in order or cut; that it gives none with such a name
+pub data NestedProblem : Type 0 where
+  in_query : binding.BindProblem → NestedProblem
+  bad_order : NestedProblem
+  gives_no_records : NestedProblem
+  bad_result_name : NestedProblem
+
+pub record NestedFault : Type 0 where
+  pub place : ℕ
+  pub problem : NestedProblem
+
+abbrev pub fault_in_query : binding.BindFault → NestedFault
+fault_in_query f = record { place = f.place; problem = in_query f.problem }
+
 -- why a query is refused: its text spells none, or the schema has no meaning for it
 pub data QueryRefusal : Type 0 where
   text_refused : parse.QueryFault → QueryRefusal
-  binding_refused : binding.BindFault → QueryRefusal
+  binding_refused : NestedFault → QueryRefusal
 
 -- what is refused, in the order in which it is looked at
 pub data CommandRefusal : Type 0 where
@@ -67,6 +82,12 @@ bind_problem_name binding.bad_within = codes "BadWithin"
 bind_problem_name binding.not_grouped = codes "NotGrouped"
 bind_problem_name binding.duplicate_name = codes "DuplicateName"
 
+abbrev pub nested_problem_name : NestedProblem → List ℕ
+nested_problem_name (in_query p) = bind_problem_name p
+nested_problem_name bad_order = codes "BadOrder"
+nested_problem_name gives_no_records = codes "NotRecords"
+nested_problem_name bad_result_name = codes "ResultName"
+
 -- `refused schema at B: WHAT`, `refused field N: WHAT`, `refused query at B: WHAT`, `refused line N: WHAT`
 abbrev pub schema_refusal_text : SchemaFault → List ℕ
 schema_refusal_text e = codes "refused schema at " ++ (decimal e.place ++ (codes ": " ++ (schema_problem_name e.problem ++ 10 ∷ [])))
@@ -79,7 +100,7 @@ query_fault_text place name = codes "refused query at " ++ (decimal place ++ (co
 
 abbrev pub query_refusal_text : QueryRefusal → List ℕ
 query_refusal_text (text_refused e) = query_fault_text e.place (query_problem_name e.problem)
-query_refusal_text (binding_refused e) = query_fault_text e.place (bind_problem_name e.problem)
+query_refusal_text (binding_refused e) = query_fault_text e.place (nested_problem_name e.problem)
 
 abbrev pub line_refusal_text : Refusal → List ℕ
 line_refusal_text e = codes "refused line " ++ (decimal e.line ++ (codes ": " ++ (line_fault_name e.fault ++ 10 ∷ [])))

@@ -52,8 +52,8 @@ impl IndexCursor {
     }
 }
 
-/// The width of indices, which is the first byte, and the hybrid data behind it; none where there is no width of at most
-/// 32 bits.
+/// The width of indices, which is the first byte, and the hybrid data behind it; none where there is no width of at
+/// most 32 bits.
 fn index_runs(bytes: &[u8]) -> Option<(u32, &[u8])>
     ensures some { IfSome result (λ p. (bytes.now ≡ p.0 ∷ p.1.now) × (p.0 ≤ 32)) }
     ensures none { IfNone result ((w : ℕ) → (bs : List ℕ) → bytes.now ≡ w ∷ bs → 32 < w) }

@@ -9,8 +9,8 @@ use dr_hybrid::RunReader;
 use dr_memory::NoMemory;
 use std::alloc::Global;
 
-/// Levels of a part, read a piece at a time, and the last piece. Where the greatest level is 0 the part isn't looked at:
-/// all are 0.
+/// Levels of a part, read a piece at a time, and the last piece. Where the greatest level is 0 the part isn't looked
+/// at: all are 0.
 #[derive(Drop)]
 pub(crate) struct LevelCursor {
     pub(crate) greatest: u8,

@@ -30,8 +30,8 @@ pub(crate) fn read_places(
     }
 }
 
-/// Puts places of texts into the place of others, as many, as columns have them; false where one isn't within 4 GiB. All
-/// are looked at, many at once.
+/// Puts places of texts into the place of others, as many, as columns have them; false where one isn't within 4 GiB.
+/// All are looked at, many at once.
 #[inline(always)]
 fn fill_places(texts: &[dr_plain::TextPlace], out: &mut [TextPlace]) -> bool
     requires { length out.old ≡ length texts.now }

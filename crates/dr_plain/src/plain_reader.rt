@@ -12,8 +12,8 @@ use crate::text_batch::read_batch;
 use crate::texts::{append_texts, front_texts};
 use crate::values::{PlainFault, TextPlace};
 
-/// Reads values in PLAIN a piece at a time. Each call takes the bytes of all values, the same ones, and the calls are of
-/// one kind. A refusal is repeated from then on. It has no buffers.
+/// Reads values in PLAIN a piece at a time. Each call takes the bytes of all values, the same ones, and the calls are
+/// of one kind. A refusal is repeated from then on. It has no buffers.
 #[derive(Clone, Copy)]
 pub struct PlainReader {
     /// Where the next value begins: the place of its first byte; of a truth value that of its bit.

@@ -60,8 +60,8 @@ fn fill_batch<'a>(bytes: &'a [u8], out: &mut [TextPlace]) -> Option<&'a [u8]>
     }
 }
 
-/// Puts the places of the texts with which bytes begin into the place of others, as many, whatever the texts' bytes are.
-/// Answers where the last one ends; none where there are fewer.
+/// Puts the places of the texts with which bytes begin into the place of others, as many, whatever the texts' bytes
+/// are. Answers where the last one ends; none where there are fewer.
 #[inline]
 fn put_places(bytes: &[u8], out: &mut [TextPlace]) -> Option<usize>
     ensures found { IfSome result (λ end. repeatedly text_bytes (length out.old) bytes.now

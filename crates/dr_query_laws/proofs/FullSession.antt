@@ -11,14 +11,17 @@ use Rattle.json.specs.Print.{escape_byte}
 use Rattle.dr_meaning.specs.Schema.{Schema}
 use Rattle.dr_meaning.specs.Record.{Node}
 use Rattle.dr_meaning.specs.Lines.{lines_of}
-use Rattle.dr_meaning.specs.Parse.{parse_query, items, argument, whole_expression}
+use Rattle.dr_meaning.specs.Parse.{items as plain_items, keys, argument, whole_expression}
 use Rattle.dr_meaning.specs.Binding.{bind}
-use Rattle.dr_meaning.specs.Query.{Query, meaning}
+use Rattle.dr_meaning.specs.Query as plain
 use Rattle.dr_meaning.specs.Refusals.{QueryRefusal}
 use Rattle.dr_meaning.specs.Print.{result_text}
-use Rattle.dr_meaning.specs.Ask.{read_query, answer_text}
 use Rattle.dr_meaning.proofs.WorkedSchemas.{document}
-use Rattle.dr_meaning.specs.Session.{Session, Heard, SessionFault, Spoken, spoken, spoken_from, spoken_behind, heard, asked_text, published_text, at_text, most_lines, full, query_refused}
+use Rattle.dr_sub_meaning.specs.Nested.{NestedQuery, answered, meaning, outer_fields, outer_records}
+use Rattle.dr_sub_meaning.specs.NestedParse.{parse_nested}
+use Rattle.dr_sub_meaning.specs.NestedBinding.{bind_nested}
+use Rattle.dr_sub_meaning.specs.NestedAsk.{read_nested, nested_answer_text}
+use Rattle.dr_sub_meaning.specs.Session.{Session, Heard, SessionFault, Spoken, spoken, spoken_from, spoken_behind, heard, asked_text, published_text, at_text, most_lines, full, query_refused}
 
 abbrev the_schema : Schema
 the_schema = record { name = codes "Document"; fields = document }
@@ -127,17 +130,17 @@ no_records (suc m) = flat_more (empties m) (no_records m)
     flat_more ([] ∷ xs) e = flat_more xs e
     flat_more ((n ∷ R) ∷ xs) e = absurd (cc)
 
-abbrev answered : ℕ → Result Query QueryRefusal → List Node → ℕ → Result Heard SessionFault
-answered m (Ok q) R k = Ok (record { session = behind m; text = answer_text the_schema q R ++ at_text k })
-answered m (Err e) R k = Err (query_refused e)
+abbrev heard_so : ℕ → Result NestedQuery QueryRefusal → List Node → ℕ → Result Heard SessionFault
+heard_so m (Ok q) R k = Ok (record { session = behind m; text = nested_answer_text the_schema q R ++ at_text k })
+heard_so m (Err e) R k = Err (query_refused e)
 
 counts : (m : ℕ) → heard the_schema (behind m) 4097 count ≡ Ok (record { session = behind m; text = codes "{\"r\":0}\n" ++ at_text m })
-unfolding utf8_valid_len lib.Utf8.encode parse_query items argument whole_expression bind read_query answer_text is_utf8 chars result_text meaning escape_byte digits
+unfolding utf8_valid_len lib.Utf8.encode parse_nested plain_items keys argument whole_expression bind_nested bind read_nested nested_answer_text answered outer_fields outer_records plain.meaning is_utf8 chars result_text meaning escape_byte digits
 counts m =
-    let q : Result Query QueryRefusal = read_query the_schema (asked_text (codes "SELECT COUNT(*) AS r FROM Document")) in
-    let first : heard the_schema (behind m) 4097 count ≡ answered m q (flat_map (λ (R : List Node). R) (empties m)) (length (empties m)) = refl in
-    let last : answered m q [] m ≡ Ok (record { session = behind m; text = codes "{\"r\":0}\n" ++ at_text m }) = refl in
-    first ∙ (ap₂ (answered m q) (no_records m) (how_many m) ∙ last)
+    let q : Result NestedQuery QueryRefusal = read_nested the_schema (asked_text (codes "SELECT COUNT(*) AS r FROM Document")) in
+    let first : heard the_schema (behind m) 4097 count ≡ heard_so m q (flat_map (λ (R : List Node). R) (empties m)) (length (empties m)) = refl in
+    let last : heard_so m q [] m ≡ Ok (record { session = behind m; text = codes "{\"r\":0}\n" ++ at_text m }) = refl in
+    first ∙ (ap₂ (heard_so m q) (no_records m) (how_many m) ∙ last)
 
 pub all_asked : spoken the_schema (dots 4096 ++ count) ≡ record { text = told_from 1 4096 ++ (codes "{\"r\":0}\nat 4096\n" ++ []); refusal = None }
 unfolding digits

@@ -8,3 +8,6 @@ pub mod LineLemmas
 pub mod ServerItemLemmas
 pub mod MergeLemmas
 pub mod MergePlanLemmas
+-- ORDER BY, and queries in FROM
+pub mod ArrangingLemmas
+pub mod NestedLemmas

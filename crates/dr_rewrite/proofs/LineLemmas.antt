@@ -1,5 +1,5 @@
--- The three lines that are written are those of the plan's query.
-use Rattle.std.proofs.Common.{◌≡◌, ℕ, ◌+◌, ◌<◌, ◌≤◌, List, [], ◌∷◌, ◌++◌, map, length, true, Vec, refl, sym, ap, ap₂, ◌∙◌, subst, arith}
+-- The lines that are written are those of the plan's query.
+use Rattle.std.proofs.Common.{◌≡◌, ℕ, ◌+◌, ◌<◌, ◌≤◌, List, [], ◌++◌, map, length, true, Vec, refl, sym, ap, ap₂, ◌∙◌, subst, arith}
 use Rattle.std.specs.Prelude.{codes, Option, option_map}
 use Rattle.std.specs.List.{list_all, slice_get}
 use Rattle.std.specs.declared.alloc.Global.{Global}
@@ -7,10 +7,9 @@ use Rattle.std.proofs.lemmas.Bool.{and_parts}
 use Rattle.std.proofs.lemmas.List.{length-map}
 use Rattle.dr_meaning.specs.Path.{Step, Leaf}
 use Rattle.dr_meaning.specs.Query as query
-use Rattle.dr_nested.specs.SchemaView.{schema_view}
 use Rattle.dr_partials.specs.PartialTypes.{aggregates_among}
 use Rattle.dr_partials.specs.Rewriting.{key_items, aggregate_items, merging_terms}
-use Rattle.dr_partials.specs.RewritingText.{group_term_text, column_text, column_names, in_quotes, named, record_term_text, key_names as meant_names, select_text, leaf_text, inner_text, root_text, rewriting_text}
+use Rattle.dr_partials.specs.RewritingText.{group_term_text, column_text, column_names, in_quotes, named, record_term_text, key_names as meant_names, select_text, inner_text, root_text}
 use Rattle.dr_plan.specs.Conjuncts.{condition_written}
 use Rattle.dr_plan.specs.declared.aggregate.Aggregate.{Aggregate}
 use Rattle.dr_plan.specs.declared.expression.Truth.{Truth}
@@ -20,11 +19,12 @@ use Rattle.dr_plan.specs.declared.plan.Selection.{Selection}
 use Rattle.dr_plan.specs.Fitting.{are_numbered, has_key, selection_fits}
 use Rattle.dr_plan.specs.Views.{aggregate_view, group_item_view, path_of, joining_view, record_item_view, selection_view, truth_view}
 use Rattle.dr_rewrite.specs.Items.{indexed, key_name, aggregate_name, key_text, leaf_key, leaf_aggregate}
-use Rattle.dr_rewrite.specs.Lines.{key_names, leaf_line, inner_line, root_line, lines, tests_text}
+use Rattle.dr_rewrite.specs.Lines.{key_names, leaf_line, inner_line, root_line, tests_text}
 use Rattle.dr_rewrite.specs.Writing.{written_leaves, written_path}
 use Rattle.dr_rewrite.specs.declared.paths.Names.{Names}
 use Rattle.dr_rewrite.proofs.RewritingTextLemmas.{names_of, key_item_names, names_count, nth_name, nth_aggregate, nth_behind, nth_of, no_shift, map_map, map_joined, written_items, leaf_keys, leaf_aggregates, numbers_of, among_items, inner_aggregates, root_written}
 use Rattle.dr_meaning.specs.Lists.{nth_text}
+use Rattle.dr_sub_meaning.specs.NestedText.{leaf_over}
 
 -- ---- the parts of a plan that fits
 
@@ -73,16 +73,18 @@ leaf_items n keys all items w =
     (λ j k e. ap (nth_text texts) (no_shift j) ∙ (ap (λ ts. nth_text ts j) (map_map (written_path n) (λ k. path_of (slice_get ls k)) keys) ∙ nth_of (key_text n) keys j k e)))
     (ap (λ ts. written_items text (aggregate_items 0 ts)) w.among ∙ leaf_aggregates n texts 0 all))
 
-leaf_same : (n : Names) (tests : List Truth) (joining : Option Joining) (s : Selection) → selection_fits (written_leaves n) s ≡ true
-    → leaf_line n tests joining s ≡ leaf_text (written_path n) (condition_written (map (truth_view (written_leaves n)) tests) (option_map joining_view joining)) (selection_view (written_leaves n) s)
-leaf_same n tests joining (Selection.Objects items o) h =
-    ap (λ is. select_text is (codes "tablet") (tests_text n tests joining) [])
+-- the leaf query of a plan over a table
+pub leaf_same : (n : Names) (table : List ℕ) (tests : List Truth) (joining : Option Joining) (s : Selection) → selection_fits (written_leaves n) s ≡ true
+    → leaf_line n table tests joining s ≡ leaf_over table (written_path n) (condition_written (map (truth_view (written_leaves n)) tests) (option_map joining_view joining)) (selection_view (written_leaves n) s)
+leaf_same n table tests joining (Selection.Objects items o) h =
+    ap (λ is. select_text is table (tests_text n tests joining) [])
     (sym (map_map (λ (i : query.RecordItem). named (record_term_text (written_path n) i.term) (in_quotes i.name)) (record_item_view (written_leaves n)) items.items))
-leaf_same n tests joining (Selection.Groups keys all items) h =
-    ap₂ (λ is ks. select_text is (codes "tablet") (tests_text n tests joining) ks) (leaf_items n keys.items all.items items.items (parts_of (written_leaves n) keys all items h))
+leaf_same n table tests joining (Selection.Groups keys all items) h =
+    ap₂ (λ is ks. select_text is table (tests_text n tests joining) ks) (leaf_items n keys.items all.items items.items (parts_of (written_leaves n) keys all items h))
     (sym (map_map (written_path n) (λ k. path_of (slice_get (written_leaves n) k)) keys.items))
 
-inner_same : (ls : List Leaf) (s : Selection) → selection_fits ls s ≡ true → inner_line s ≡ inner_text (selection_view ls s)
+-- those of servers above
+pub inner_same : (ls : List Leaf) (s : Selection) → selection_fits ls s ≡ true → inner_line s ≡ inner_text (selection_view ls s)
 inner_same ls (Selection.Objects items o) h = refl
 inner_same ls (Selection.Groups keys all items) h =
     let w = parts_of ls keys all items h in
@@ -99,7 +101,7 @@ inner_same ls (Selection.Groups keys all items) h =
     (λ i l. aggregate_columns ps (aggregates_among is) i (as_many ls keys.items all.items items.items w i l)) first below)))
     ks
 
-root_same : (ls : List Leaf) (s : Selection) → selection_fits ls s ≡ true → root_line s ≡ root_text (selection_view ls s)
+pub root_same : (ls : List Leaf) (s : Selection) → selection_fits ls s ≡ true → root_line s ≡ root_text (selection_view ls s)
 root_same ls (Selection.Objects items o) h = refl
 root_same ls (Selection.Groups keys all items) h =
     let w = parts_of ls keys all items h in
@@ -114,11 +116,3 @@ root_same ls (Selection.Groups keys all items) h =
     (λ i l. aggregate_columns ps (aggregates_among is) i (as_many ls keys.items all.items items.items w i l)) (key_columns ps) items.items 0 (length ps) first w.numbered
     (subst (λ m. list_all (λ (x : GroupItem). has_key m x.term) items.items ≡ true) (sym many) w.keyed)))
     ks
-
-pub lines_are_rewriting : (n : Names) (tests : List Truth) (joining : Option Joining) (s : Selection) → selection_fits (written_leaves n) s ≡ true
-    → lines n tests joining s ≡ rewriting_text (schema_view n.schema.now).fields (record { condition = condition_written (map (truth_view (written_leaves n)) tests) (option_map joining_view joining); selection = selection_view (written_leaves n) s })
-unfolding rewriting_text
-lines_are_rewriting n tests joining s h =
-    let ls = written_leaves n in
-    ap₂ (λ l r. codes "leaf: " ++ (l ++ r)) (leaf_same n tests joining s h)
-    (ap₂ (λ m r. codes "\ninner: " ++ (m ++ (codes "\nroot: " ++ (r ++ 10 ∷ [])))) (inner_same ls s h) (root_same ls s h))

@@ -1,8 +1,10 @@
+pub mod Arranging
 pub mod Items
 pub mod Lines
 pub mod Lists
 pub mod Merge
 pub mod Merged
+pub mod Nested
 pub mod RowColumns
 pub mod ServerItems
 pub mod Writing

@@ -1,5 +1,5 @@
 -- The lines that tell a plan's queries, by its parts.
-use Rattle.std.specs.Prelude.{ℕ, List, [], ◌∷◌, ◌++◌, codes, map, Option, option_map}
+use Rattle.std.specs.Prelude.{ℕ, List, [], ◌++◌, codes, map, Option, option_map}
 use Rattle.dr_partials.specs.RewritingText.{select_text, where_text}
 use Rattle.dr_plan.specs.Conjuncts.{condition_written}
 use Rattle.dr_plan.specs.Views.{joining_view, truth_view}
@@ -18,12 +18,12 @@ tests_text n tests joining = where_text (written_path n) (condition_written (map
 abbrev pub key_names : List ℕ → List (List ℕ)
 key_names keys = indexed (λ (i k : ℕ). key_name i) 0 keys
 
--- the leaf query
-abbrev pub leaf_line : Names → List Truth → Option Joining → Selection → List ℕ
-leaf_line n tests joining (Selection.Objects items o) = select_text (map (record_item_text n) items.items) (codes "tablet") (tests_text n tests joining) []
-leaf_line n tests joining (Selection.Groups keys aggregates items) =
+-- the leaf query over a table
+abbrev pub leaf_line : Names → List ℕ → List Truth → Option Joining → Selection → List ℕ
+leaf_line n table tests joining (Selection.Objects items o) = select_text (map (record_item_text n) items.items) table (tests_text n tests joining) []
+leaf_line n table tests joining (Selection.Groups keys aggregates items) =
     select_text (indexed (leaf_key n) 0 keys.items ++ indexed (leaf_aggregate n) 0 aggregates.items)
-    (codes "tablet") (tests_text n tests joining) (map (key_text n) keys.items)
+    table (tests_text n tests joining) (map (key_text n) keys.items)
 
 -- the inner query
 abbrev pub inner_line : Selection → List ℕ
@@ -35,7 +35,3 @@ inner_line (Selection.Groups keys aggregates items) =
 abbrev pub root_line : Selection → List ℕ
 root_line (Selection.Objects items o) = codes "CONCAT children"
 root_line (Selection.Groups keys aggregates items) = select_text (map (root_item aggregates.items) items.items) (codes "children") [] (key_names keys.items)
-
--- the three lines
-abbrev pub lines : Names → List Truth → Option Joining → Selection → List ℕ
-lines n tests joining s = codes "leaf: " ++ (leaf_line n tests joining s ++ (codes "\ninner: " ++ (inner_line s ++ (codes "\nroot: " ++ (root_line s ++ 10 ∷ [])))))

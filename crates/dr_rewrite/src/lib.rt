@@ -1,6 +1,7 @@
 //! The text of a plan's queries, as the servers of a tree run them.
 #![tactic(auto)]
 
+mod arranging;
 mod columns;
 mod condition;
 mod expressions;
@@ -12,13 +13,13 @@ mod merge;
 mod merged;
 mod merging;
 mod names;
+mod nested;
 mod numbers;
 mod paths;
 mod record_items;
-mod rewriting;
 mod row_columns;
 mod server_items;
 mod terms;
 
 pub use merge::{Merge, inner_of, root_of};
-pub use rewriting::rewriting_text;
+pub use nested::nested_text;

@@ -1,6 +1,6 @@
 //! The lines that tell a plan's queries.
 
-ghost use Rattle.std.specs.Prelude.{◌≡◌, ◌++◌, codes, map, string_bytes, IfOk, OnOk};
+ghost use Rattle.std.specs.Prelude.{◌≡◌, ◌++◌, codes, map, string_bytes, OnOk};
 ghost use Rattle.dr_partials.specs.RewritingText as meant;
 ghost use Rattle.dr_rewrite.specs.Lines as written;
 
@@ -12,7 +12,7 @@ use crate::merging::{push_inner_aggregates, root_items};
 use crate::paths::Names;
 use crate::record_items::record_items;
 use dr_memory::NoMemory;
-use dr_plan::{Joining, Selection, Truth};
+use dr_plan::{Plan, Selection};
 use std::alloc::{AllocError, Global};
 
 /// Appends SELECT, items, and the table.
@@ -41,30 +41,29 @@ fn push_group_by(keys: &[String], out: &mut String) -> Result<(), AllocError>
     }
 }
 
-/// Appends the query of leaf servers.
-fn push_leaf_line(
+/// Appends the query of leaf servers over a table.
+pub(crate) fn push_leaf_line(
     alloc: Global,
-    tests: &[Truth],
-    joining: &Option<Joining>,
-    selection: &Selection,
+    table: &str,
+    plan: &Plan,
     names: &Names<'_>,
     out: &mut String,
 ) -> Result<(), NoMemory>
-    ensures { OnOk result (string_bytes out.new
-        ≡ string_bytes out.old ++ written.leaf_line names.now tests.now joining.now selection.now) }
+    ensures { OnOk result (string_bytes out.new ≡ string_bytes out.old ++ written.leaf_line names.now table.now
+        (plan.now).test.items (plan.now).joining (plan.now).selection) }
 {
-    match selection {
+    match &plan.selection {
         Selection::Objects(items, _) => {
             let texts = record_items(alloc, items, names)?;
-            push_select(&texts, "tablet", out)?;
-            push_condition(tests, joining, names, out)?;
+            push_select(&texts, table, out)?;
+            push_condition(&plan.test, &plan.joining, names, out)?;
             Ok(())
         }
         Selection::Groups(keys, aggregates, _) => {
             let texts = leaf_items(alloc, keys, aggregates, names)?;
             let paths = key_paths(alloc, keys, names)?;
-            push_select(&texts, "tablet", out)?;
-            push_condition(tests, joining, names, out)?;
+            push_select(&texts, table, out)?;
+            push_condition(&plan.test, &plan.joining, names, out)?;
             push_group_by(&paths, out)?;
             Ok(())
         }
@@ -72,7 +71,11 @@ fn push_leaf_line(
 }
 
 /// Appends the query of intermediate servers.
-fn push_inner_line(alloc: Global, selection: &Selection, out: &mut String) -> Result<(), NoMemory>
+pub(crate) fn push_inner_line(
+    alloc: Global,
+    selection: &Selection,
+    out: &mut String,
+) -> Result<(), NoMemory>
     ensures { OnOk result (string_bytes out.new ≡ string_bytes out.old ++ written.inner_line selection.now) }
 {
     match selection {
@@ -92,7 +95,11 @@ fn push_inner_line(alloc: Global, selection: &Selection, out: &mut String) -> Re
 }
 
 /// Appends the query of the root.
-fn push_root_line(alloc: Global, selection: &Selection, out: &mut String) -> Result<(), NoMemory>
+pub(crate) fn push_root_line(
+    alloc: Global,
+    selection: &Selection,
+    out: &mut String,
+) -> Result<(), NoMemory>
     ensures { OnOk result (string_bytes out.new ≡ string_bytes out.old ++ written.root_line selection.now) }
 {
     match selection {
@@ -108,25 +115,4 @@ fn push_root_line(alloc: Global, selection: &Selection, out: &mut String) -> Res
             Ok(())
         }
     }
-}
-
-/// The three lines.
-pub(crate) fn lines(
-    alloc: Global,
-    tests: &[Truth],
-    joining: &Option<Joining>,
-    selection: &Selection,
-    names: &Names<'_>,
-) -> Result<String, NoMemory>
-    ensures { IfOk result (λ s. string_bytes s ≡ written.lines names.now tests.now joining.now selection.now) }
-{
-    let mut out = String::new(alloc);
-    out.push_str("leaf: ")?;
-    push_leaf_line(alloc, tests, joining, selection, names, &mut out)?;
-    out.push_str("\ninner: ")?;
-    push_inner_line(alloc, selection, &mut out)?;
-    out.push_str("\nroot: ")?;
-    push_root_line(alloc, selection, &mut out)?;
-    out.push_str("\n")?;
-    Ok(out)
 }

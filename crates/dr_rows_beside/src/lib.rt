@@ -1,5 +1,5 @@
-//! Rows of columns side by side: at each triplet of a leaf, its value and what was read last of the leaves beside it; and
-//! which of these rows, and of their records, a plan's condition keeps.
+//! Rows of columns side by side: at each triplet of a leaf, its value and what was read last of the leaves beside it;
+//! and which of these rows, and of their records, a plan's condition keeps.
 #![tactic(auto)]
 
 mod answers;

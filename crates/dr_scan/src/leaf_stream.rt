@@ -60,8 +60,8 @@ impl<'f> LeafStream<'f> {
         })
     }
 
-    /// Appends the next triplets of the leaf to the batch, at the column's end none, and notes that it is there. Answers
-    /// how many came.
+    /// Appends the next triplets of the leaf to the batch, at the column's end none, and notes that it is there.
+    /// Answers how many came.
     ///
     /// Errors: the link failed, with its counts of faults before and after this call; `BadData` where the leaf's chunks
     /// spell no column of any records; want of memory.

@@ -1,6 +1,6 @@
 //! Scans: a tablet's records as a partial of a query, from the file at a path, or from the first of the tablet's copies
-//! that gives one. Of each leaf's column a chunk of whole records is held at a time, or a batch, where a record is longer
-//! than a chunk.
+//! that gives one. Of each leaf's column a chunk of whole records is held at a time, or a batch, where a record is
+//! longer than a chunk.
 #![tactic(auto)]
 
 mod chunks;

@@ -73,8 +73,8 @@ fn all_ended(alloc: Global, columns: usize) -> Result<Vec<bool>, NoMemory>
     Ok(ended)
 }
 
-/// Makes of the moves of a walk over the columns, which has given none, what a plan makes of them. Nothing was read of any
-/// leaf before.
+/// Makes of the moves of a walk over the columns, which has given none, what a plan makes of them. Nothing was read of
+/// any leaf before.
 ///
 /// Errors: `BadData` where no records have the columns; want of memory, or of room for what is made.
 fn make_whole(

@@ -1,15 +1,17 @@
 -- What is printed of a table that is held.
-use Rattle.std.specs.Prelude.{⊤, ◌≡◌, ◌<◌, ◌≤◌, ℕ, zero, suc, List, [], ◌∷◌, All, length, map, take, true, Option, Some, None, IsTrue}
+use Rattle.std.specs.Prelude.{⊤, Ok, ◌≡◌, ◌<◌, ◌≤◌, ℕ, zero, suc, List, [], ◌∷◌, All, length, map, take, true, Option, Some, None, IsTrue}
 use Rattle.std.specs.List.{list_all, slice_get}
 use Rattle.std.proofs.Common.{arith, inl, inr, refl, sym, ap, ◌∙◌, subst}
 use Rattle.std.proofs.lemmas.Bool.{and_from}
 use Rattle.dr_meaning.specs.Schema.{Schema}
 use Rattle.dr_meaning.specs.Path.{Leaf, leaves, is_leaf_path, paths_of_leaves}
 use Rattle.dr_meaning.specs.Record.{Node, project}
-use Rattle.dr_meaning.specs.Query.{Query, meaning}
-use Rattle.dr_meaning.specs.QueryLeaves.{query_leaves}
+use Rattle.dr_meaning.specs.Query as plain
+use Rattle.dr_meaning.specs.Query.{Query, Object}
+use Rattle.dr_meaning.specs.QueryLeaves as plain_leaves
+use Rattle.dr_meaning.specs.Syntax.{QuerySyntax}
+use Rattle.dr_meaning.specs.Binding.{bind}
 use Rattle.dr_meaning.specs.Print.{result_text}
-use Rattle.dr_meaning.specs.Ask.{answer_text}
 use Rattle.dr_meaning.proofs.QueryLeavesLemmas.{leaves_are_enough}
 use Rattle.dr_formats.specs.TableFile.{Table}
 use Rattle.dr_formats.specs.WritingLaws.{nth_leaf, AreAmong}
@@ -22,8 +24,12 @@ use Rattle.dr_reading.specs.Scan.{Copy, joined, tablets_of}
 use Rattle.dr_reading.specs.Given.{IsGiven, AreGiven}
 use Rattle.dr_reading.specs.Left.{LeftTablet}
 use Rattle.dr_reading.proofs.ReadingLemmas.{given_are_projected}
-use Rattle.dr_plan.specs.declared.plan.Plan.{Plan}
-use Rattle.dr_plan.specs.PlanOf.{IsPlanOf}
+use Rattle.dr_sub_meaning.specs.Nested.{NestedQuery, fields_through, records_through, outer_fields, outer_records, answered, meaning, innermost, query_leaves}
+use Rattle.dr_sub_meaning.specs.NestedAsk.{nested_answer_text}
+use Rattle.dr_sub_meaning.specs.ResultRecords.{result_fields, records_of}
+use Rattle.dr_sub.specs.Texts.{ArePlansOf}
+use Rattle.dr_sub.specs.declared.nested_plan.NestedPlan.{NestedPlan}
+use Rattle.dr_stages.proofs.ResultLemmas.{innermost_planned}
 use Rattle.dr_serve.specs.Counted.{OneGives, AreCounted, no_more, is_counted, is_not_counted, AreLeftOf, held_of}
 use Rattle.dr_serve.specs.Answers.{IsAnswerBut}
 use Rattle.dr_load.specs.Loaded.{TabletsAreFiles}
@@ -42,8 +48,9 @@ are_among : (s : Schema) (F : List Leaf) → AreLeavesOf s.fields F → AreAmong
 are_among s [] h = tt
 are_among s (l ∷ F) h = ((h.0.0, same_leaf (leaves s.fields) h.0.0 ∙ h.0.1), are_among s F h.1)
 
-query_among : (s : Schema) (q : Query) → AreAmong (leaves s.fields) (query_leaves s.fields q)
-query_among s q = are_among s (query_leaves s.fields q) (used_are_leaves s.fields q)
+query_among : (s : Schema) (n : NestedQuery) → AreAmong (leaves s.fields) (query_leaves s.fields n)
+unfolding query_leaves
+query_among s n = are_among s (query_leaves s.fields n) (used_are_leaves s.fields (innermost n.inner n.outer))
 
 nth_of : (P : Leaf → Type 0) (ls : List Leaf) (i : ℕ) (l : Leaf) → EachLeaf P ls → nth_leaf ls i ≡ Some l → P l
 nth_of P [] i l h e = absurd (cc)
@@ -58,21 +65,37 @@ all_leaf_paths s (l ∷ F) h =
 
 -- ---- what is printed
 
-same_answers : (s : Schema) (q : Query) (p : Plan) (R S : List Node) → IsPlanOf s q p → map (project (paths_of_leaves (query_leaves s.fields q))) R ≡ map (project (paths_of_leaves (query_leaves s.fields q))) S
-    → answer_text s q R ≡ answer_text s q S
-unfolding answer_text
-same_answers s q p R S b e = ap result_text (sym (leaves_are_enough s b.0 q R b.1) ∙ ap (meaning s.fields q) e ∙ leaves_are_enough s b.0 q S b.1)
+-- these records are the same to a query's leaves
+abbrev AreAlike : Schema → Query → List Node → List Node → Type 0
+AreAlike s q R S = map (project (paths_of_leaves (plain_leaves.query_leaves s.fields q))) R ≡ map (project (paths_of_leaves (plain_leaves.query_leaves s.fields q))) S
+
+same_meaning : (s : Schema) (x : QuerySyntax) (q : Query) (R S : List Node) → bind s x ≡ Ok q → AreAlike s q R S → plain.meaning s.fields q R ≡ plain.meaning s.fields q S
+same_meaning s x q R S b e = sym (leaves_are_enough s x q R b) ∙ ap (plain.meaning s.fields q) e ∙ leaves_are_enough s x q S b
+
+-- records that are the same to the innermost query are the same to those over it
+same_through : (s : Schema) (x : QuerySyntax) (qs : List Query) (q : Query) (R S : List Node) → bind s x ≡ Ok (innermost qs q) → AreAlike s (innermost qs q) R S
+    → plain.meaning (fields_through s.fields qs) q (records_through s.fields qs R) ≡ plain.meaning (fields_through s.fields qs) q (records_through s.fields qs S)
+same_through s x [] q R S b e = same_meaning s x q R S b e
+same_through s x (p ∷ ps) q R S b e =
+    ap (λ (os : List Object). plain.meaning (fields_through (result_fields s.fields p) ps) q (records_through (result_fields s.fields p) ps (records_of os))) (same_meaning s x p R S b e)
+
+same_answers : (s : Schema) (n : NestedQuery) (p : NestedPlan) (R S : List Node) → ArePlansOf s n p → map (project (paths_of_leaves (query_leaves s.fields n))) R ≡ map (project (paths_of_leaves (query_leaves s.fields n))) S
+    → nested_answer_text s n R ≡ nested_answer_text s n S
+unfolding nested_answer_text meaning outer_fields outer_records query_leaves
+same_answers s n p R S are e =
+    let b = innermost_planned s n p are in
+    ap (λ (os : List Object). result_text (answered n os)) (same_through s b.0 n.inner n.outer R S b.1 e)
 
 -- the answer of the table is that of its records
-answer_is_of : (t : Table) (q : Query) (p : Plan) (held : Option Files) (R : List Node) (text : List ℕ) → HoldsTableOf t held R → IsPlanOf t.schema q p
-    → (a : (Rs : List (List Node)) × AreGiven t.schema (query_leaves t.schema.fields q) held (tablets_of t) Rs × (text ≡ answer_text t.schema q (joined Rs))) → text ≡ answer_text t.schema q R
-answer_is_of t q p None R text h b a = absurd h
-answer_is_of t q p (Some files) R text h b a =
-    let F : List Leaf = query_leaves t.schema.fields q in
-    let f : TabletsAreFiles h.0 t.schema F files (tablets_of t) h.1 = h.3 F (query_among t.schema q) in
-    a.2 ∙ same_answers t.schema q p (joined a.0) (joined h.1) b
-    (given_are_projected t.schema F files (Some files) (tablets_of t) h.1 a.0 (all_leaf_paths t.schema F (query_among t.schema q)) (λ path. refl) (files_are_held h.0 t.schema F files (tablets_of t) h.1 f) a.1)
-    ∙ ap (answer_text t.schema q) h.2
+answer_is_of : (t : Table) (n : NestedQuery) (p : NestedPlan) (held : Option Files) (R : List Node) (text : List ℕ) → HoldsTableOf t held R → ArePlansOf t.schema n p
+    → (a : (Rs : List (List Node)) × AreGiven t.schema (query_leaves t.schema.fields n) held (tablets_of t) Rs × (text ≡ nested_answer_text t.schema n (joined Rs))) → text ≡ nested_answer_text t.schema n R
+answer_is_of t n p None R text h b a = absurd h
+answer_is_of t n p (Some files) R text h b a =
+    let F : List Leaf = query_leaves t.schema.fields n in
+    let f : TabletsAreFiles h.0 t.schema F files (tablets_of t) h.1 = h.3 F (query_among t.schema n) in
+    a.2 ∙ same_answers t.schema n p (joined a.0) (joined h.1) b
+    (given_are_projected t.schema F files (Some files) (tablets_of t) h.1 a.0 (all_leaf_paths t.schema F (query_among t.schema n)) (λ path. refl) (files_are_held h.0 t.schema F files (tablets_of t) h.1 f) a.1)
+    ∙ ap (nested_answer_text t.schema n) h.2
 
 -- ---- what links hold that hold the same
 
@@ -99,17 +122,17 @@ all_given s F files links i ts left Rs a (is_not_counted j cs rest more tried Ss
 
 -- ---- what is printed of a table that is held
 
-pub answer_is : {L : Type 0} (shows : L → LinkShown) (t : Table) (q : Query) (p : Plan) (n : ℕ) (links : List L) (files : Files) (R : List Node) (text : List ℕ) → All (λ l. (shows l).held ≡ Some files) links
-    → HoldsTableOf t (Some files) R → IsPlanOf t.schema q p → IsAnswerBut t q (map shows (take n links)) [] text → text ≡ answer_text t.schema q R
-answer_is shows t q p n links files R text a h b is =
-    answer_is_of t q p (Some files) R text h b
-    (is.0, all_given t.schema (query_leaves t.schema.fields q) files (map shows (take n links)) 0 (tablets_of t) [] is.0 (hold_taken shows files n links a) is.1 refl, is.2)
+pub answer_is : {L : Type 0} (shows : L → LinkShown) (t : Table) (n : NestedQuery) (p : NestedPlan) (k : ℕ) (links : List L) (files : Files) (R : List Node) (text : List ℕ) → All (λ l. (shows l).held ≡ Some files) links
+    → HoldsTableOf t (Some files) R → ArePlansOf t.schema n p → IsAnswerBut t n (map shows (take k links)) [] text → text ≡ nested_answer_text t.schema n R
+answer_is shows t n p k links files R text a h b is =
+    answer_is_of t n p (Some files) R text h b
+    (is.0, all_given t.schema (query_leaves t.schema.fields n) files (map shows (take k links)) 0 (tablets_of t) [] is.0 (hold_taken shows files k links a) is.1 refl, is.2)
 
 -- no tablet is left
-pub steady_leaves_none : {L : Type 0} (shows : L → LinkShown) (t : Table) (q : Query) (n : ℕ) (links : List L) (now : ℕ) (files : Files) (R : List Node) (left : List LeftTablet) → 0 < n → n ≤ length links → All (λ l. (shows l).held ≡ Some files) links
-    → All (λ l. IsTrue (shows l).is_steady) links → 0 < t.copies → HoldsTableOf t (Some files) R → AreLeftOf t.schema (query_leaves t.schema.fields q) (tablets_of t) (map shows (take n links)) now left → ⊥
-steady_leaves_none shows t q zero links now files R left some many a s c h l = absurd (omega (arith, some))
-steady_leaves_none shows t q (suc n) [] now files R left some many a s c h l = absurd (omega (arith, many))
-steady_leaves_none shows t q (suc n) (x ∷ links) now files R left some many a s c h l =
-    let F : List Leaf = query_leaves t.schema.fields q in
-    l.0 (none_left h.0 t.schema F (shows x) files (a 0 x (omega arith)) (s 0 x (omega arith)) 0 (tablets_of t) left h.1 (have_copies t.leaves t.copies 0 t.tablets c) (h.3 F (query_among t.schema q)) l.1)
+pub steady_leaves_none : {L : Type 0} (shows : L → LinkShown) (t : Table) (n : NestedQuery) (k : ℕ) (links : List L) (now : ℕ) (files : Files) (R : List Node) (left : List LeftTablet) → 0 < k → k ≤ length links → All (λ l. (shows l).held ≡ Some files) links
+    → All (λ l. IsTrue (shows l).is_steady) links → 0 < t.copies → HoldsTableOf t (Some files) R → AreLeftOf t.schema (query_leaves t.schema.fields n) (tablets_of t) (map shows (take k links)) now left → ⊥
+steady_leaves_none shows t n zero links now files R left some many a s c h l = absurd (omega (arith, some))
+steady_leaves_none shows t n (suc k) [] now files R left some many a s c h l = absurd (omega (arith, many))
+steady_leaves_none shows t n (suc k) (x ∷ links) now files R left some many a s c h l =
+    let F : List Leaf = query_leaves t.schema.fields n in
+    l.0 (none_left h.0 t.schema F (shows x) files (a 0 x (omega arith)) (s 0 x (omega arith)) 0 (tablets_of t) left h.1 (have_copies t.leaves t.copies 0 t.tablets c) (h.3 F (query_among t.schema n)) l.1)

@@ -2,8 +2,6 @@
 use Rattle.std.specs.Prelude.{◌≡◌, ◌<◌, ◌≤◌, ℕ, All, List, [], length, true, Option, Some, None, MatchOption, Ok, Err, ⊤}
 use Rattle.std.proofs.Common.{arith, sym, ap, ◌∙◌, subst}
 use Rattle.dr_meaning.specs.Schema.{Schema, is_schema}
-use Rattle.dr_meaning.specs.Query.{Query}
-use Rattle.dr_meaning.specs.Ask.{answer_text}
 use Rattle.dr_meaning.specs.Lines.{Refusal, lines_of, result_of, records_of}
 use Rattle.dr_meaning.proofs.LineLemmas.{taken_are_records}
 use Rattle.dr_formats.specs.Loading.{Plan, most_loaded, table_of, load}
@@ -19,6 +17,8 @@ use Rattle.dr_load.specs.Loads.{taken_of, LoadsTable}
 use Rattle.dr_input.specs.Taken.{WhereTold}
 use Rattle.dr_load.specs.Loaded.{IsPlan, IsApart}
 use Rattle.dr_load.proofs.LoadedLemmas.{loaded_records_are_held, loaded_records_are_joined}
+use Rattle.dr_sub_meaning.specs.Nested.{NestedQuery}
+use Rattle.dr_sub_meaning.specs.NestedAsk.{nested_answer_text}
 use Rattle.dr_serve.specs.Asked.{HoldsTableOf, IsAnswerTo}
 
 -- what a load has put is a table that is held
@@ -31,11 +31,11 @@ pub some_tablet : (p : Plan) (count : ℕ) (input : Option (List ℕ)) (before n
 some_tablet p count input before now s a l = (loaded_records_are_held p count input [] before now s a tt l).0
 
 -- a text that answers the records that were loaded answers the input
-pub answers_input : (p : Plan) (q : Query) (count : ℕ) (input : Option (List ℕ)) (before now : Files) (text : List ℕ) → IsPlan p → IsApart p.directories p.table → (l : LoadsTable p p.table count input (Some before) (Some now))
-    → text ≡ answer_text p.schema q l.records → WhereTold input (IsAnswerTo p.schema q p.rows text)
-answers_input p q count input before now text s a l e = by input (loaded_records_are_held p count input [] before now s a tt l).2
+pub answers_input : (p : Plan) (n : NestedQuery) (count : ℕ) (input : Option (List ℕ)) (before now : Files) (text : List ℕ) → IsPlan p → IsApart p.directories p.table → (l : LoadsTable p p.table count input (Some before) (Some now))
+    → text ≡ nested_answer_text p.schema n l.records → WhereTold input (IsAnswerTo p.schema n p.rows text)
+answers_input p n count input before now text s a l e = by input (loaded_records_are_held p count input [] before now s a tt l).2
   where
-    by : (o : Option (List ℕ)) → WhereTold o (λ bytes. records_of p.schema.fields (most_loaded p.rows) bytes ≡ Ok l.records) → WhereTold o (IsAnswerTo p.schema q p.rows text)
+    by : (o : Option (List ℕ)) → WhereTold o (λ bytes. records_of p.schema.fields (most_loaded p.rows) bytes ≡ Ok l.records) → WhereTold o (IsAnswerTo p.schema n p.rows text)
     by None h = tt
     by (Some bytes) h = (l.records, h, e)
 
@@ -82,9 +82,9 @@ pub memory_holds : (s : Schema) (ds es : List (List ℕ)) (rows count : ℕ) (in
 memory_holds s ds es rows count input before now m l e =
     subst (λ (x : List (List ℕ)). HoldsTableOf (memory_table s x count) (Some now) l.records) e (holds_table (memory_plan s ds rows) count input before now (memory_is_plan s ds rows m) tt l)
 
-pub memory_answers : (s : Schema) (q : Query) (ds : List (List ℕ)) (rows count : ℕ) (input : Option (List ℕ)) (before now : Files) (text : List ℕ) → IsMemory s ds rows → (l : LoadsMemory s ds rows count input before now)
-    → text ≡ answer_text s q l.records → WhereTold input (IsAnswerTo s q rows text)
-memory_answers s q ds rows count input before now text m l e = answers_input (memory_plan s ds rows) q count input before now text (memory_is_plan s ds rows m) tt l e
+pub memory_answers : (s : Schema) (n : NestedQuery) (ds : List (List ℕ)) (rows count : ℕ) (input : Option (List ℕ)) (before now : Files) (text : List ℕ) → IsMemory s ds rows → (l : LoadsMemory s ds rows count input before now)
+    → text ≡ nested_answer_text s n l.records → WhereTold input (IsAnswerTo s n rows text)
+memory_answers s n ds rows count input before now text m l e = answers_input (memory_plan s ds rows) n count input before now text (memory_is_plan s ds rows m) tt l e
 
 -- ---- links to the table in memory
 

@@ -3,9 +3,10 @@ use Rattle.std.specs.Prelude.{◌≡◌, ℕ, List, Option, Some, None, Ok}
 use Rattle.dr_meaning.specs.Schema.{Schema}
 use Rattle.dr_meaning.specs.Path.{Leaf, leaves}
 use Rattle.dr_meaning.specs.Record.{Node}
-use Rattle.dr_meaning.specs.Query.{Query}
 use Rattle.dr_meaning.specs.Lines.{records_of}
-use Rattle.dr_meaning.specs.Ask.{most_asked, answer_text}
+use Rattle.dr_meaning.specs.Ask.{most_asked}
+use Rattle.dr_sub_meaning.specs.Nested.{NestedQuery}
+use Rattle.dr_sub_meaning.specs.NestedAsk.{nested_answer_text}
 use Rattle.dr_formats.specs.Page.{PageForm}
 use Rattle.dr_formats.specs.TableFile.{Table}
 use Rattle.dr_formats.specs.WritingLaws.{AreAmong}
@@ -20,5 +21,5 @@ HoldsTableOf t (Some files) R = (form : PageForm) × (Rs : List (List Node)) × 
     × ((F : List Leaf) → AreAmong (leaves t.schema.fields) F → TabletsAreFiles form t.schema F files (tablets_of t) Rs)
 
 -- a text is what a query prints of the records of an input, where a tablet has so many of them
-abbrev pub IsAnswerTo : Schema → Query → ℕ → List ℕ → List ℕ → Type 0
-IsAnswerTo s q rows text input = (R : List Node) × (records_of s.fields (most_asked rows) input ≡ Ok R) × (text ≡ answer_text s q R)
+abbrev pub IsAnswerTo : Schema → NestedQuery → ℕ → List ℕ → List ℕ → Type 0
+IsAnswerTo s n rows text input = (R : List Node) × (records_of s.fields (most_asked rows) input ≡ Ok R) × (text ≡ nested_answer_text s n R)

@@ -3,11 +3,9 @@
 ghost use Rattle.std.specs.Prelude.{◌≡◌, ◌≢◌, ◌<◌, ◌≤◌, [], Some, None, Err, MatchOption, ⊤, IfOk, IfErr, OnOk, length, string_bytes};
 ghost use Rattle.dr_meaning.specs.Ask.{most_asked};
 ghost use Rattle.dr_meaning.specs.Lines.{records_of};
-ghost use Rattle.dr_meaning.specs.Query.{Query};
 ghost use Rattle.dr_nested.specs.SchemaView.{schema_view};
 ghost use Rattle.dr_outside.specs.Faults.{raised};
-ghost use Rattle.dr_plan.specs.Planned.{IsOfSchema};
-ghost use Rattle.dr_plan.specs.PlanOf.{IsPlanOf};
+ghost use Rattle.dr_sub.specs.Texts.{ArePlansOver, ForNested};
 ghost use Rattle.dr_load.specs.Faults.{refusal_of};
 ghost use Rattle.dr_input.specs.Taken.{WhereTold, AcceptsRead};
 ghost use Rattle.dr_serve.specs.Asked.{IsAnswerTo};
@@ -20,7 +18,7 @@ use dr_memory::NoMemory;
 use dr_nested::Schema;
 use dr_outside::{Shelf, Source};
 use dr_page::PageForm;
-use dr_plan::Plan;
+use dr_sub::NestedPlan;
 use dr_table::Table;
 use std::alloc::Global;
 use std::sync::Wait;
@@ -35,9 +33,9 @@ fn one_leaf(alloc: Global) -> Result<Vec<String>, NoMemory>
     Ok(leaves)
 }
 
-/// What a plan's query prints of the records of an input, which is read to its end. They are loaded into memory as a
-/// table, `rows` of them to a tablet, and the answer is that of the table, served so: each worker has a link of its own
-/// to the one shelf.
+/// What the query of some plans prints of the records of an input, which is read to its end. They are loaded into memory
+/// as a table, `rows` of them to a tablet, and the answer is that of the table, served so: each worker has a link of its
+/// own to the one shelf.
 ///
 /// Errors: the first line that is refused, as is each past 4,096 times `rows`; the source failed, and no whole line
 /// that it gave before is refused; want of memory. Nothing else: no tablet of the table is left, whether the source
@@ -46,19 +44,19 @@ pub fn ask_input<R: Threads + Wait + Sync, S: Source>(
     rt: &R,
     alloc: Global,
     schema: Schema,
-    plan: &Plan,
+    plans: &NestedPlan,
     rows: u32,
     options: &ServeOptions,
     source: &mut S,
 ) -> Result<String, LoadFault>
-    requires planned { IsOfSchema (schema_view schema) plan.now }
+    requires planned { ArePlansOver (schema_view schema) plans.now }
     requires has_rows { 0 < rows }
     requires few_rows { rows ≤ 1000000 }
     requires workers { 0 < (options.now).workers }
     requires fan { 1 ≤ (options.now).fan }
     requires least { (options.now).least ≡ 100 }
-    ensures text { IfOk result (λ t. (q : Query) → IsPlanOf (schema_view schema) q plan.now
-        → WhereTold (S.shows source.old).left (IsAnswerTo (schema_view schema) q rows (string_bytes t))) }
+    ensures text { IfOk result (λ t. ForNested (schema_view schema) plans.now
+        (λ n. WhereTold (S.shows source.old).left (IsAnswerTo (schema_view schema) n rows (string_bytes t)))) }
     ensures end { OnOk result (WhereTold (S.shows source.old).left (λ _. (S.shows source.new).left ≡ Some [])) }
     ensures refused { IfErr result (λ e. MatchOption (refusal_of e) ⊤
         (λ r. WhereTold (S.shows source.old).left
@@ -92,6 +90,6 @@ pub fn ask_input<R: Threads + Wait + Sync, S: Source>(
         tablets,
     };
     let mut links = lent(alloc, &shelf, options.workers)?;
-    let text = answer_steady(rt, alloc, &mut links, &table, plan, options)?;
+    let text = answer_steady(rt, alloc, &mut links, &table, plans, options)?;
     Ok(text)
 }

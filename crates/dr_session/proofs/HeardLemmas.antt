@@ -9,17 +9,17 @@ use Rattle.dr_meaning.specs.Schema.{Schema}
 use Rattle.dr_meaning.specs.Path.{leaves}
 use Rattle.dr_meaning.specs.Record.{Node}
 use Rattle.dr_meaning.specs.JsonRecord.{RecordFault, record_of_line}
-use Rattle.dr_meaning.specs.Query.{Query, Object}
+use Rattle.dr_meaning.specs.Query.{Object}
 use Rattle.dr_meaning.specs.Print.{result_text}
-use Rattle.dr_meaning.specs.Ask.{read_query}
 use Rattle.dr_meaning.specs.Refusals.{QueryRefusal}
-use Rattle.dr_bind.specs.Plans.{IsPlanMeant}
-use Rattle.dr_plan.specs.PlanOf.{IsPlanOf}
-use Rattle.dr_plan.specs.declared.plan.Plan.{Plan}
 use Rattle.dr_meaning.specs.Lines.{longest_line}
 use Rattle.dr_formats.specs.File.{IsFileOf}
 use Rattle.dr_service.specs.Tablets.{most_tablets, AreTabletsOf, IsAnswer}
-use Rattle.dr_meaning.specs.Session.{Session, Heard, SessionFault, too_many_records, full, line_too_long, too_many_lines, most_kept, most_lines, most_published, kept_behind, keeps, publishes, published_text, answers, asked_text, at_text, commanded, heard}
+use Rattle.dr_sub.specs.Texts.{ArePlansMeant, ForNested}
+use Rattle.dr_sub.specs.declared.nested_plan.NestedPlan.{NestedPlan}
+use Rattle.dr_sub_meaning.specs.Nested.{NestedQuery}
+use Rattle.dr_sub_meaning.specs.NestedAsk.{read_nested}
+use Rattle.dr_sub_meaning.specs.Session.{Session, Heard, SessionFault, too_many_records, full, line_too_long, too_many_lines, most_kept, most_lines, most_published, kept_behind, keeps, publishes, published_text, answers, asked_text, at_text, commanded, heard}
 use Rattle.dr_session.specs.Faults.{IsRefusedLine, Hears}
 use Rattle.dr_session.specs.Held.{IsKept, IsSession}
 use Rattle.dr_session.specs.Keeping.{wrapped, kept_record, IsRefusedRecord, KeepsRecord}
@@ -87,15 +87,15 @@ publish_heard s w k m old new bytes count text h l f none e c t =
 
 -- ---- `?`
 
-pub answer_heard : (s : Schema) (w : Session) (q : Query) (k : Kept) (old new note learnt asked : List (List ℕ)) (rows : List Object) (at : ℕ) (text : String Global) → IsSession s w k old
-    → new ≡ old → note ≡ old → IsPrefix note learnt → IsPrefix learnt asked → IsPrefix asked old → IsAnswer s q asked rows → at ≡ length asked → string_bytes text ≡ result_text rows ++ at_text at
-    → Hears (answers s w (Ok q)) (λ v. IsSession s v k new) (Ok text)
-answer_heard s w q k old new note learnt asked rows at text h e n p r d a c t =
-    let front : IsPrefix old learnt = subst (λ (x : List (List ℕ)). IsPrefix x learnt) n p in
+pub answer_heard : (s : Schema) (w : Session) (n : NestedQuery) (k : Kept) (old new note learnt asked : List (List ℕ)) (rows : List Object) (at : ℕ) (text : String Global) → IsSession s w k old
+    → new ≡ old → note ≡ old → IsPrefix note learnt → IsPrefix learnt asked → IsPrefix asked old → IsAnswer s n asked rows → at ≡ length asked → string_bytes text ≡ result_text rows ++ at_text at
+    → Hears (answers s w (Ok n)) (λ v. IsSession s v k new) (Ok text)
+answer_heard s w n k old new note learnt asked rows at text h e m p r d a c t =
+    let front : IsPrefix old learnt = subst (λ (x : List (List ℕ)). IsPrefix x learnt) m p in
     let same : asked ≡ old = same_lists asked old d (prefix_on old learnt asked front r) in (
       record { session = w; text = _ },
       refl,
-      t ∙ answer_is s q asked old w.published rows at same h.tablets_are a c,
+      t ∙ answer_is s n asked old w.published rows at same h.tablets_are a c,
       record { kept_are = h.kept_are; tablets_are = subst (λ (x : List (List ℕ)). AreTabletsOf s x w.published) (sym e) h.tablets_are },
     )
   where
@@ -120,7 +120,7 @@ heard_line s w number line l m = heard_if s w number line false false (grind (ar
 pub keep_line : (s : Schema) (w : Session) (number : ℕ) (line rest : List ℕ) → length line ≤ longest_line → number ≤ most_lines → line ≡ 43 ∷ rest → heard s w number line ≡ keeps s w rest
 keep_line s w number line rest l m e = heard_line s w number line l m ∙ ap (commanded s w) e
 
-pub ask_line : (s : Schema) (w : Session) (number : ℕ) (line rest : List ℕ) → length line ≤ longest_line → number ≤ most_lines → line ≡ 63 ∷ rest → heard s w number line ≡ answers s w (read_query s (asked_text rest))
+pub ask_line : (s : Schema) (w : Session) (number : ℕ) (line rest : List ℕ) → length line ≤ longest_line → number ≤ most_lines → line ≡ 63 ∷ rest → heard s w number line ≡ answers s w (read_nested s (asked_text rest))
 ask_line s w number line rest l m e = heard_line s w number line l m ∙ ap (commanded s w) e
 
 pub publish_line : (s : Schema) (w : Session) (number : ℕ) (line : List ℕ) → length line ≤ longest_line → number ≤ most_lines → line ≡ 46 ∷ [] → heard s w number line ≡ publishes w
@@ -129,18 +129,13 @@ publish_line s w number line l m e = heard_line s w number line l m ∙ ap (comm
 pub hears_so : (a b : Result Heard SessionFault) (P : Session → Type 0) (r : Result (String Global) HearFault) → a ≡ b → Hears b P r → Hears a P r
 hears_so a b P r e h = subst (λ (x : Result Heard SessionFault). Hears x P r) (sym e) h
 
--- ---- the plan of a query's text
+-- ---- the plans of a query's text
 
-pub ask_heard : (s t : Schema) (w : Session) (text : List ℕ) (p : Plan) (P : Session → Type 0) (r : Result (String Global) HearFault) → t ≡ s → IsPlanMeant t (read_query t (asked_text text)) p
-    → ((q : Query) → IsPlanOf s q p → Hears (answers s w (Ok q)) P r) → Hears (answers s w (read_query s (asked_text text))) P r
+pub ask_heard : (s t : Schema) (w : Session) (text : List ℕ) (p : NestedPlan) (P : Session → Type 0) (r : Result (String Global) HearFault) → t ≡ s → ArePlansMeant t (read_nested t (asked_text text)) p
+    → ForNested s p (λ n. Hears (answers s w (Ok n)) P r) → Hears (answers s w (read_nested s (asked_text text))) P r
 ask_heard s t w text p P r same meant each =
-    let m = subst (λ (x : Schema). IsPlanMeant x (read_query x (asked_text text)) p) same meant in
-    subst (λ (x : Result Query QueryRefusal). Hears (answers s w x) P r) (sym m.1) (each m.0 m.2)
-
-pub plan_there : (s t : Schema) (text : List ℕ) (p : Plan) → t ≡ s → IsPlanMeant t (read_query t (asked_text text)) p → (q : Query) × IsPlanOf s q p
-plan_there s t text p same meant =
-    let m = subst (λ (x : Schema). IsPlanMeant x (read_query x (asked_text text)) p) same meant in
-    (m.0, m.2)
+    let m = subst (λ (x : Schema). ArePlansMeant x (read_nested x (asked_text text)) p) same meant in
+    subst (λ (x : Result NestedQuery QueryRefusal). Hears (answers s w x) P r) (sym m.1) (each m.0 m.2)
 
 -- ---- the file of the records that are kept
 

@@ -29,7 +29,7 @@ use Rattle.dr_write.proofs.FitLemmas as write_laws
 use Rattle.dr_input.proofs.ReadForm.{limited_small, line_limited}
 use Rattle.std.proofs.lemmas.Bool.Decides.{nat_tests}
 use Rattle.dr_meaning.specs.JsonRecord.{RecordFault, record_of_line}
-use Rattle.dr_meaning.specs.Session.{most_kept, too_many_records}
+use Rattle.dr_sub_meaning.specs.Session.{most_kept, too_many_records}
 use Rattle.dr_session.specs.Keeping.{wrapped, kept_record, IsRefusedRecord, KeepsRecord, StripesRecord}
 use Rattle.dr_session.specs.declared.fault.HearFault.{HearFault}
 use Rattle.dr_session.specs.Held.{IsKept}

@@ -5,7 +5,7 @@ use Rattle.std.proofs.Common.{arith, sym, ap, ◌∙◌, subst, append_assoc, ap
 use Rattle.std.proofs.lemmas.List.{length-append}
 use Rattle.dr_outside.specs.Faults.{raised}
 use Rattle.dr_outside.specs.Sink.{SinkShown, Added, AddedWhole, AddedFront}
-use Rattle.dr_meaning.specs.Session.{Session, Heard, SessionFault}
+use Rattle.dr_sub_meaning.specs.Session.{Session, Heard, SessionFault}
 use Rattle.dr_session.specs.Faults.{Hears}
 use Rattle.dr_session.specs.Saying.{Says}
 use Rattle.dr_session.specs.declared.talking.TalkFault.{TalkFault}

@@ -11,15 +11,16 @@ use mathlib.Core.List.{IsPrefix}
 use Rattle.dr_meaning.specs.Schema.{Schema}
 use Rattle.dr_meaning.specs.Path.{leaves}
 use Rattle.dr_meaning.specs.Record.{Node}
-use Rattle.dr_meaning.specs.Query.{Query, Object, meaning}
+use Rattle.dr_meaning.specs.Query.{Object}
 use Rattle.dr_meaning.specs.Print.{result_text}
-use Rattle.dr_meaning.specs.Ask.{answer_text}
 use Rattle.dr_formats.specs.File.{IsFileOf}
 use Rattle.dr_outside.specs.declared.cause.Cause.{Cause}
 use Rattle.dr_reading.specs.Scan.{joined}
 use Rattle.dr_reading.proofs.FileLemmas.{other_causes_hold_no_file}
 use Rattle.dr_service.specs.Tablets.{AreTabletsOf, IsAnswer, IsTabletCause}
-use Rattle.dr_meaning.specs.Session.{asked_text, at_text}
+use Rattle.dr_sub_meaning.specs.Nested.{NestedQuery, meaning}
+use Rattle.dr_sub_meaning.specs.NestedAsk.{nested_answer_text}
+use Rattle.dr_sub_meaning.specs.Session.{asked_text, at_text}
 
 -- ---- texts
 
@@ -62,12 +63,12 @@ joined_flat : (Rs : List (List Node)) → joined Rs ≡ flat_map (λ (R : List N
 joined_flat [] = refl
 joined_flat (R ∷ Rs) = ap (λ (S : List Node). R ++ S) (joined_flat Rs)
 
-pub answer_is : (s : Schema) (q : Query) (ts us : List (List ℕ)) (Rs : List (List Node)) (rows : List Object) (k : ℕ) → ts ≡ us → AreTabletsOf s us Rs → IsAnswer s q ts rows → k ≡ length ts
-    → result_text rows ++ at_text k ≡ answer_text s q (flat_map (λ (R : List Node). R) Rs) ++ at_text (length Rs)
-unfolding answer_text
-answer_is s q ts us Rs rows k e h a n =
+pub answer_is : (s : Schema) (n : NestedQuery) (ts us : List (List ℕ)) (Rs : List (List Node)) (rows : List Object) (k : ℕ) → ts ≡ us → AreTabletsOf s us Rs → IsAnswer s n ts rows → k ≡ length ts
+    → result_text rows ++ at_text k ≡ nested_answer_text s n (flat_map (λ (R : List Node). R) Rs) ++ at_text (length Rs)
+unfolding nested_answer_text
+answer_is s n ts us Rs rows k e h a m =
     let g : AreTabletsOf s ts Rs = subst (λ (x : List (List ℕ)). AreTabletsOf s x Rs) (sym e) h in
-    ap₂ (λ (x : List Object) (m : ℕ). result_text x ++ at_text m) (a.each Rs g ∙ ap (meaning s.fields q) (joined_flat Rs)) (n ∙ as_many s ts Rs g)
+    ap₂ (λ (x : List Object) (l : ℕ). result_text x ++ at_text l) (a.each Rs g ∙ ap (meaning s.fields n) (joined_flat Rs)) (m ∙ as_many s ts Rs g)
 
 -- ---- two lists of which each begins the other
 

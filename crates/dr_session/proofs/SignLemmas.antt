@@ -4,8 +4,8 @@ use Rattle.std.proofs.Common.{arith, refl, sym, ap, ap₂, ◌∙◌}
 use Rattle.std.proofs.lemmas.Bool.Decides.{nat_tests}
 use Rattle.std.proofs.lemmas.Slice.Eq.{bytes_eq-Decides}
 use Rattle.dr_meaning.specs.Schema.{Schema}
-use Rattle.dr_meaning.specs.Ask.{read_query}
-use Rattle.dr_meaning.specs.Session.{Session, no_command, commanded, keeps, answers, asked_text, publishes}
+use Rattle.dr_sub_meaning.specs.NestedAsk.{read_nested}
+use Rattle.dr_sub_meaning.specs.Session.{Session, no_command, commanded, keeps, answers, asked_text, publishes}
 use Rattle.dr_session.specs.Signs.{Begins}
 
 pub begins_so : (b : ℕ) (line : List ℕ) → 1 ≤ length line → slice_index line 0 ≡ b → Begins b line
@@ -27,7 +27,7 @@ not_dot line false e h = refl
 
 commanded_if : (s : Schema) (w : Session) (b : ℕ) (line : List ℕ) → b == 43 ≡ false → b == 63 ≡ false → bytes_eq (b ∷ line) (46 ∷ []) ≡ false → commanded s w (b ∷ line) ≡ Err no_command
 commanded_if s w b line e f g =
-    ap₂ (λ (x : Bool) (y : Bool). if x then keeps s w line else (if y then answers s w (read_query s (asked_text line)) else (if bytes_eq (b ∷ line) (46 ∷ []) then publishes w else Err no_command))) e f
+    ap₂ (λ (x : Bool) (y : Bool). if x then keeps s w line else (if y then answers s w (read_nested s (asked_text line)) else (if bytes_eq (b ∷ line) (46 ∷ []) then publishes w else Err no_command))) e f
     ∙ ap (λ (z : Bool). if z then publishes w else Err no_command) g
 
 pub no_sign : (line : List ℕ) (s : Schema) (w : Session) → 1 ≤ length line → slice_index line 0 ≢ 43 → slice_index line 0 ≢ 63 → (line ≡ 46 ∷ [] → ⊥) → commanded s w line ≡ Err no_command

@@ -10,7 +10,7 @@ use Rattle.dr_input.specs.Whole.{whole_lines}
 use Rattle.dr_input.proofs.WholeLemmas.{whole_behind, whole_line, none_whole}
 use Rattle.dr_input.proofs.TakenLemmas.{lines_split, last_nothing}
 use Rattle.dr_input.specs.Taken.{EndsLine, WhereTold}
-use Rattle.dr_meaning.specs.Session.{Session, Heard, SessionFault, Spoken, new_session, heard, spoken_behind, spoken_from, spoken}
+use Rattle.dr_sub_meaning.specs.Session.{Session, Heard, SessionFault, Spoken, new_session, heard, spoken_behind, spoken_from, spoken}
 use Rattle.dr_session.specs.Spoken.{behind, Speaks, HasSpoken}
 use Rattle.dr_session.specs.Saying.{RefusesFirst}
 use Rattle.dr_session.specs.Talking.{Prints, PrintsBefore, PrintsGiven, PrintsFront}

@@ -9,7 +9,7 @@ use Rattle.dr_lines.specs.declared.cutter.LineFault.{LineFault as CutFault}
 use Rattle.dr_lines.specs.declared.cutter.LineFault.TheVariants as cutter
 use Rattle.dr_outside.specs.Faults.{raised}
 use Rattle.dr_outside.specs.Source.{SourceShown}
-use Rattle.dr_meaning.specs.Session.{Session, line_too_long, too_many_lines, most_lines, heard}
+use Rattle.dr_sub_meaning.specs.Session.{Session, line_too_long, too_many_lines, most_lines, heard}
 use Rattle.dr_session.specs.Saying.{RefusesFirst, CutStops, cut_fault_in}
 
 long_line : (s : Schema) (w : Session) (number : ℕ) (l : List ℕ) → longest_line < length l → heard s w number l ≡ Err line_too_long

@@ -3,8 +3,8 @@ use Rattle.std.specs.Prelude.{◌≡◌, ℕ, suc, List, [], ◌++◌, Option, S
 use Rattle.std.specs.Result.{IsErrAnd}
 use Rattle.std.proofs.Common.{refl, sym, ap, ◌∙◌, subst}
 use Rattle.dr_meaning.specs.Schema.{Schema}
-use Rattle.dr_meaning.specs.Session as session
-use Rattle.dr_meaning.specs.Session.{Heard, SessionFault, SessionRefusal, new_session, heard}
+use Rattle.dr_sub_meaning.specs.Session as session
+use Rattle.dr_sub_meaning.specs.Session.{Heard, SessionFault, SessionRefusal, new_session, heard}
 use Rattle.dr_outside.specs.Faults.{raised}
 use Rattle.dr_outside.specs.Source.{SourceShown}
 use Rattle.dr_outside.specs.Sink.{SinkShown, AddedWhole}

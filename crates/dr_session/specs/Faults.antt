@@ -1,12 +1,12 @@
 -- What the faults of this crate stand for, and how a line is answered.
 use Rattle.std.specs.Prelude.{◌≡◌, Result, Ok, Err, ⊤, String, string_bytes}
 use Rattle.std.specs.declared.alloc.Global.{Global}
-use Rattle.dr_meaning.specs.Session as session
-use Rattle.dr_meaning.specs.Session.{SessionFault, Heard, line_too_long, too_many_lines, too_many_records, no_record, full, query_refused, no_command}
+use Rattle.dr_sub_meaning.specs.Session as session
+use Rattle.dr_sub_meaning.specs.Session.{SessionFault, Heard, line_too_long, too_many_lines, too_many_records, no_record, full, query_refused, no_command}
 use Rattle.dr_json.specs.Faults.{record_problem_view}
 use Rattle.dr_json.specs.declared.fault.RecordFault.{RecordFault}
-use Rattle.dr_bind.specs.Faults.{refusal_of}
-use Rattle.dr_bind.specs.declared.fault.QueryFault.{QueryFault}
+use Rattle.dr_sub.specs.Texts.{refusal_of}
+use Rattle.dr_sub.specs.declared.refusal.TextFault.{TextFault}
 use Rattle.dr_session.specs.declared.fault.SessionProblem.{SessionProblem}
 use Rattle.dr_session.specs.declared.fault.HearFault.{HearFault}
 
@@ -25,9 +25,9 @@ abbrev pub of_record : RecordFault → HearFault
 of_record RecordFault.NoMemory = HearFault.NoMemory
 of_record (RecordFault.Refused p) = HearFault.Refused (SessionProblem.Record p)
 
-abbrev pub of_query : QueryFault → HearFault
-of_query QueryFault.NoMemory = HearFault.NoMemory
-of_query (QueryFault.Refused place p) = HearFault.Refused (SessionProblem.Query place p)
+abbrev pub of_query : TextFault → HearFault
+of_query TextFault.NoMemory = HearFault.NoMemory
+of_query (TextFault.Refused place p) = HearFault.Refused (SessionProblem.Query place p)
 
 -- ---- answers
 

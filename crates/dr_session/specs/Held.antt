@@ -8,7 +8,7 @@ use Rattle.dr_meaning.specs.Column.{column}
 use Rattle.dr_formats.specs.WritingLaws.{is_limited}
 use Rattle.dr_striper.specs.Striping.{leaves_of}
 use Rattle.dr_striper.specs.Stripers.{striped, striped_leaves}
-use Rattle.dr_meaning.specs.Session.{Session, most_kept}
+use Rattle.dr_sub_meaning.specs.Session.{Session, most_kept}
 use Rattle.dr_service.specs.Tablets.{AreTabletsOf}
 use Rattle.dr_session.specs.declared.kept.Kept.{Kept}
 

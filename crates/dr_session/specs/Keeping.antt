@@ -6,7 +6,7 @@ use Rattle.dr_meaning.specs.Column.{Triplet, record_column}
 use Rattle.dr_striper.specs.Striping.{gained}
 use Rattle.dr_meaning.specs.Record.{Node, is_record}
 use Rattle.dr_meaning.specs.JsonRecord.{RecordFault}
-use Rattle.dr_meaning.specs.Session.{SessionFault, most_kept, too_many_records, no_record}
+use Rattle.dr_sub_meaning.specs.Session.{SessionFault, most_kept, too_many_records, no_record}
 use Rattle.dr_session.specs.Faults.{problem_view}
 use Rattle.dr_session.specs.Held.{IsKept}
 use Rattle.dr_session.specs.declared.fault.HearFault.{HearFault}

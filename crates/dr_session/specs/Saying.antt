@@ -8,8 +8,8 @@ use Rattle.dr_outside.specs.Source.{SourceShown}
 use Rattle.dr_input.specs.Taken.{WhereTold}
 use Rattle.dr_outside.specs.Faults.{raised}
 use Rattle.dr_outside.specs.Sink.{SinkShown, AddedWhole, AddedFront}
-use Rattle.dr_meaning.specs.Session as session
-use Rattle.dr_meaning.specs.Session.{SessionFault, Heard, heard}
+use Rattle.dr_sub_meaning.specs.Session as session
+use Rattle.dr_sub_meaning.specs.Session.{SessionFault, Heard, heard}
 use Rattle.dr_session.specs.Faults.{problem_view}
 use Rattle.dr_session.specs.declared.fault.SessionProblem.{SessionProblem}
 use Rattle.dr_session.specs.declared.talking.TalkFault.{TalkFault}

@@ -1,7 +1,7 @@
 -- The sign that a line begins with.
 use Rattle.std.specs.Prelude.{◌≡◌, ◌≤◌, ℕ, List, [], ◌∷◌, drop, length, Err}
 use Rattle.dr_meaning.specs.Schema.{Schema}
-use Rattle.dr_meaning.specs.Session.{Session, no_command, commanded}
+use Rattle.dr_sub_meaning.specs.Session.{Session, no_command, commanded}
 use Rattle.dr_session.specs.declared.sign.Sign.{Sign}
 
 -- the line begins with this byte

@@ -3,7 +3,7 @@ use Rattle.std.specs.Prelude.{◌≡◌, ℕ, ◌+◌, List, ◌++◌, length, O
 use Rattle.dr_meaning.specs.Schema.{Schema}
 use Rattle.dr_meaning.specs.Lines.{lines_of}
 use Rattle.dr_input.specs.Taken.{EndsLine}
-use Rattle.dr_meaning.specs.Session.{Session, Spoken, new_session, spoken_from}
+use Rattle.dr_sub_meaning.specs.Session.{Session, Spoken, new_session, spoken_from}
 use Rattle.dr_outside.specs.Sink.{SinkShown, AddedWhole}
 use Rattle.dr_session.specs.Held.{IsSession}
 use Rattle.dr_session.specs.declared.kept.Kept.{Kept}

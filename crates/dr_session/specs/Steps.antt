@@ -2,7 +2,7 @@
 use Rattle.std.specs.Prelude.{ℕ, List, Result, String}
 use Rattle.std.specs.declared.alloc.Global.{Global}
 use Rattle.dr_meaning.specs.Schema.{Schema}
-use Rattle.dr_meaning.specs.Session.{Session, SessionFault, Heard}
+use Rattle.dr_sub_meaning.specs.Session.{Session, SessionFault, Heard}
 use Rattle.dr_outside.specs.Sink.{SinkShown}
 use Rattle.dr_session.specs.Faults.{Hears}
 use Rattle.dr_session.specs.Held.{IsSession}

@@ -1,7 +1,7 @@
 -- What a session over an input comes to: how it ends, and what it has written then.
 use Rattle.std.specs.Prelude.{◌≡◌, ℕ, List, [], ◌++◌, Option, Some, None, ⊤, ◌⊎◌}
 use Rattle.dr_meaning.specs.Schema.{Schema}
-use Rattle.dr_meaning.specs.Session.{SessionRefusal, spoken}
+use Rattle.dr_sub_meaning.specs.Session.{SessionRefusal, spoken}
 use Rattle.dr_outside.specs.Faults.{raised}
 use Rattle.dr_outside.specs.Source.{SourceShown}
 use Rattle.dr_outside.specs.Sink.{SinkShown, AddedWhole, AddedFront}

@@ -4,9 +4,9 @@ ghost use Rattle.std.specs.Prelude.{◌≡◌};
 ghost use Rattle.dr_session.specs.declared.fault.HearFault.TheVariants as stops;
 ghost use Rattle.dr_session.specs.Faults.{of_record, of_query};
 
-use dr_bind::{QueryFault, QueryProblem};
 use dr_json::{RecordFault, RecordProblem};
 use dr_memory::NoMemory;
+use dr_sub::{TextFault, TextProblem};
 use std::alloc::AllocError;
 
 /// What is wrong with a line of a session.
@@ -23,7 +23,7 @@ pub enum SessionProblem {
     /// As many tablets are published as there may be.
     Full,
     /// The query is refused, at a byte place behind the question mark.
-    Query { place: usize, problem: QueryProblem },
+    Query { place: usize, problem: TextProblem },
     /// It begins with no sign of a session.
     Command,
 }
@@ -62,13 +62,13 @@ impl From<RecordFault> for HearFault {
     }
 }
 
-impl From<QueryFault> for HearFault {
+impl From<TextFault> for HearFault {
     ghost from_gives = { λ cause fault. fault ≡ of_query cause };
 
-    fn from(cause: QueryFault) -> HearFault {
+    fn from(cause: TextFault) -> HearFault {
         match cause {
-            QueryFault::NoMemory => HearFault::NoMemory,
-            QueryFault::Refused { place, problem } => {
+            TextFault::NoMemory => HearFault::NoMemory,
+            TextFault::Refused { place, problem } => {
                 HearFault::Refused(SessionProblem::Query { place, problem })
             }
         }

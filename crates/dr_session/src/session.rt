@@ -3,14 +3,11 @@
 ghost use Rattle.std.specs.Prelude.{◌≡◌, ◌≤◌, ◌++◌, ◌∷◌, [], Ok, length, take, string_bytes, IfOk, IfErr};
 ghost use Rattle.std.specs.Str.{IsUtf8};
 ghost use Rattle.dr_meaning.specs.Path.{leaves};
-ghost use Rattle.dr_meaning.specs.Query.{Query};
-ghost use Rattle.dr_meaning.specs.Ask.{read_query};
 ghost use Rattle.dr_nested.specs.SchemaView.{schema_view};
-ghost use Rattle.dr_bind.specs.Faults.{IsRefusedAs};
-ghost use Rattle.dr_bind.specs.Plans.{IsPlanMeant};
-ghost use Rattle.dr_plan.specs.PlanOf.{IsPlanOf};
 ghost use Rattle.dr_striper.specs.Striping.{leaves_of};
-ghost use Rattle.dr_meaning.specs.Session.{Session as Meant, new_session, heard, keeps, publishes, answers, asked_text};
+ghost use Rattle.dr_sub.specs.Texts.{ArePlansMeant, IsRefusedAs, ArePlansOver, ForNested};
+ghost use Rattle.dr_sub_meaning.specs.NestedAsk as meant;
+ghost use Rattle.dr_sub_meaning.specs.Session.{Session as Meant, new_session, heard, keeps, publishes, answers, asked_text};
 ghost use Rattle.dr_session.specs.Faults.{Hears};
 ghost use Rattle.dr_session.specs.Held.{IsSession, HoldsSome};
 ghost use Rattle.dr_session.specs.Steps.{HearsFrom};
@@ -19,12 +16,11 @@ use crate::fault::{HearFault, SessionProblem};
 use crate::kept::Kept;
 use crate::sign::{Sign, sign_of};
 use crate::texts::{answer_lines, published_line};
-use dr_bind::{QueryFault, read_query};
 use dr_lines::LONGEST_LINE;
 use dr_memory::NoMemory;
 use dr_nested::{Path, Schema};
-use dr_plan::Plan;
 use dr_service::{Asker, Ground, MOST_TABLETS, PublishFault, Publisher, Room, Service};
+use dr_sub::{NestedPlan, TextFault, read_nested};
 use std::alloc::Global;
 use std::str;
 use std::sync::Wait;
@@ -143,27 +139,31 @@ impl<'s, B: Room> Session<'s, B> {
     /// `?QUERY`: asks all that is published.
     fn ask<R: Threads + Wait + Sync>(&mut self, rt: &R, text: &[u8]) -> Result<String, HearFault>
         requires held { HoldsSome B.schema self.old.kept self.old.publisher }
-        ensures heard { HearsFrom B.schema (λ w. answers B.schema w (read_query B.schema (asked_text text.now)))
+        ensures heard { HearsFrom B.schema (λ w. answers B.schema w (meant.read_nested B.schema (asked_text text.now)))
             self.old.kept self.old.publisher self.new.kept self.new.publisher result }
     {
         let schema = self.service.schema();
-        match plan_of(self.alloc, schema, text) {
-            Ok(plan) => self.answer(rt, &plan),
+        match plans_of(self.alloc, schema, text) {
+            Ok(plans) => self.answer(rt, &plans),
             Err(fault) => Err(fault.into()),
         }
     }
 
-    /// The answer of a plan's query on all that is published.
-    fn answer<R: Threads + Wait + Sync>(&mut self, rt: &R, plan: &Plan) -> Result<String, HearFault>
+    /// The answer of a query, with those in its FROM, on all that is published.
+    fn answer<R: Threads + Wait + Sync>(
+        &mut self,
+        rt: &R,
+        plans: &NestedPlan,
+    ) -> Result<String, HearFault>
         requires held { HoldsSome B.schema self.old.kept self.old.publisher }
-        requires planned { (q : Query) × IsPlanOf B.schema q plan.now }
+        requires planned { ArePlansOver B.schema plans.now }
         ensures heard { (w : Meant) → IsSession B.schema w self.old.kept self.old.publisher
-            → (q : Query) → IsPlanOf B.schema q plan.now → Hears (answers B.schema w (Ok q))
-            (λ v. IsSession B.schema v self.new.kept self.new.publisher) result }
+            → ForNested B.schema plans.now (λ n. Hears (answers B.schema w (Ok n))
+            (λ v. IsSession B.schema v self.new.kept self.new.publisher) result) }
     {
         let note = self.service.note(&mut self.publisher);
         self.service.learn(&mut self.asker, note);
-        match self.service.query(rt, self.alloc, &mut self.asker, plan) {
+        match self.service.query(rt, self.alloc, &mut self.asker, plans) {
             Err(_) => Err(HearFault::NoMemory),
             Ok(answer) => {
                 self.service.confirm(&mut self.publisher, &mut self.asker);
@@ -176,17 +176,18 @@ impl<'s, B: Room> Session<'s, B> {
     }
 }
 
-/// The plan of a query's text. A byte that isn't UTF-8 is a bad token.
-fn plan_of(alloc: Global, schema: &Schema, text: &[u8]) -> Result<Plan, QueryFault>
-    ensures plan { IfOk result (IsPlanMeant (schema_view schema.now)
-        (read_query (schema_view schema.now) (asked_text text.now))) }
-    ensures refused { IfErr result (IsRefusedAs (read_query (schema_view schema.now) (asked_text text.now))) }
+/// The plans of a query's text. A byte that isn't UTF-8 is a bad token.
+fn plans_of(alloc: Global, schema: &Schema, text: &[u8]) -> Result<NestedPlan, TextFault>
+    ensures plans { IfOk result (ArePlansMeant (schema_view schema.now)
+        (meant.read_nested (schema_view schema.now) (asked_text text.now))) }
+    ensures refused { IfErr result (IsRefusedAs (meant.read_nested (schema_view schema.now)
+        (asked_text text.now))) }
 {
     match str::from_utf8(text) {
-        Ok(text) => read_query(alloc, schema, text),
+        Ok(text) => read_nested(alloc, schema, text),
         Err(error) => match broken_text(alloc, text, error.valid_up_to()) {
-            Ok(text) => read_query(alloc, schema, text.as_str()),
-            Err(_) => Err(QueryFault::NoMemory),
+            Ok(text) => read_nested(alloc, schema, text.as_str()),
+            Err(_) => Err(TextFault::NoMemory),
         },
     }
 }

@@ -5,7 +5,7 @@ ghost use Rattle.dr_meaning.specs.Path.{leaves};
 ghost use Rattle.dr_nested.specs.SchemaView.{schema_view};
 ghost use Rattle.dr_striper.specs.Striping.{leaves_of};
 ghost use Rattle.dr_lines.specs.Cutting.{rest_of, last_line, fault_of as line_fault_of, CutsLine, CutsBytes, IsEnd};
-ghost use Rattle.dr_meaning.specs.Session.{new_session, heard, most_lines};
+ghost use Rattle.dr_sub_meaning.specs.Session.{new_session, heard, most_lines};
 ghost use Rattle.dr_session.specs.Held.{IsSession, HoldsSome};
 ghost use Rattle.dr_session.specs.Saying.{CutStops, cut_fault_in};
 ghost use Rattle.dr_session.specs.Steps.{SaysFrom};

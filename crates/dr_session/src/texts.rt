@@ -3,7 +3,7 @@
 ghost use Rattle.std.specs.Prelude.{◌≡◌, ◌++◌, string_bytes, IfOk};
 ghost use Rattle.dr_meaning.specs.Print.{result_text};
 ghost use Rattle.dr_cells.specs.Rows.{rows_view};
-ghost use Rattle.dr_meaning.specs.Session.{published_text, at_text};
+ghost use Rattle.dr_sub_meaning.specs.Session.{published_text, at_text};
 
 use dr_cells::RowsOut;
 use dr_memory::NoMemory;

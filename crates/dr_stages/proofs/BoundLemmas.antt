@@ -7,6 +7,7 @@ use Rattle.dr_meaning.specs.Schema.{Schema, Fields, is_schema}
 use Rattle.dr_meaning.specs.Query.{Query, Selection}
 use Rattle.dr_meaning.specs.BoundExpression.{BindFault}
 use Rattle.dr_meaning.specs.Binding.{bind}
+use Rattle.dr_meaning.specs.Refusals.{NestedFault}
 use Rattle.dr_ordering.specs.Ordered.{Order, place_of_name, outermost_names}
 use Rattle.dr_plan.specs.Planned.{plan_view, planned}
 use Rattle.dr_plan.specs.declared.plan.Plan.{Plan}
@@ -14,7 +15,7 @@ use Rattle.dr_sub.specs.NestedPlans.{PlansThrough}
 use Rattle.dr_sub.specs.ResultSchemas.{IsBoundTo}
 use Rattle.dr_sub_meaning.specs.Nested.{NestedQuery}
 use Rattle.dr_sub_meaning.specs.NestedParse.{OrderSyntax, PlacedQuery}
-use Rattle.dr_sub_meaning.specs.NestedBinding.{NestedFault, bind_order, order_at, in_an_order, alone, below, over_result, then_over, bind_from, bind_nested}
+use Rattle.dr_sub_meaning.specs.NestedBinding.{bind_order, order_at, in_an_order, alone, below, over_result, then_over, bind_from, bind_nested}
 use Rattle.dr_sub_meaning.specs.ResultFaults.{SubFault, result_schema}
 use Rattle.dr_sub_meaning.specs.ResultRecords.{result_fields}
 use Rattle.dr_sub_meaning.specs.ResultSchemaLaws.{has_items}

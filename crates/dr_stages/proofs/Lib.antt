@@ -4,3 +4,7 @@ pub mod PlanLiterals
 pub mod StageLemmas
 -- queries that are bound one over another
 pub mod BoundLemmas
+-- from the innermost query's partial to the result
+pub mod ResultLemmas
+-- the item by which a result goes
+pub mod OrderLemmas

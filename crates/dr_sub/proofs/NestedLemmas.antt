@@ -21,6 +21,7 @@ use Rattle.dr_resolve.specs.declared.fault.BindFault.{BindFault}
 use Rattle.dr_sql.specs.Views.{order_view as order_text_view, select_view}
 use Rattle.dr_sql.specs.declared.query.Select.{Select}
 use Rattle.dr_sub_meaning.specs.Nested.{NestedQuery}
+use Rattle.dr_meaning.specs.Refusals as refusals
 use Rattle.dr_sub_meaning.specs.NestedBinding as meant
 use Rattle.dr_sub_meaning.specs.NestedParse.{PlacedQuery}
 use Rattle.dr_sub_meaning.specs.ResultFaults.{SubFault, result_schema}
@@ -75,12 +76,12 @@ same_selection s q plan b = ap (λ (x : Planned). x.selection) b.plan
 
 -- one whose order is bound goes on
 goes_on : (s : Schema) (q : Query) (p : PlacedQuery) (plan : Plan) (o : Option Order) → IsBoundTo s q plan → meant.bind_order (plan_view plan).selection p.order ≡ Ok o
-    → (others : Schema → Result NestedQuery meant.NestedFault) → meant.then_over s p others (Ok q) ≡ meant.over_plain (meant.is_arranged p) p (meant.over_result p q others (result_schema s.fields q))
+    → (others : Schema → Result NestedQuery refusals.NestedFault) → meant.then_over s p others (Ok q) ≡ meant.over_plain (meant.is_arranged p) p (meant.over_result p q others (result_schema s.fields q))
 goes_on s q p plan o b h others =
     ap (meant.over_order p (meant.over_result p q others (result_schema s.fields q))) (ap (λ (x : Selection). meant.bind_order x p.order) (sym (same_selection s q plan b)) ∙ h)
 
 pub arranged_refused : (s : Schema) (q : Query) (p : PlacedQuery) (plan : Plan) (o : Option Order) → IsBoundTo s q plan → meant.bind_order (plan_view plan).selection p.order ≡ Ok o → meant.is_arranged p ≡ true
-    → (others : Schema → Result NestedQuery meant.NestedFault) → meant.then_over s p others (Ok q) ≡ Err (record { place = p.place; problem = meant.gives_no_records })
+    → (others : Schema → Result NestedQuery refusals.NestedFault) → meant.then_over s p others (Ok q) ≡ Err (record { place = p.place; problem = refusals.gives_no_records })
 arranged_refused s q p plan o b h a others = goes_on s q p plan o b h others ∙ ap (λ c. meant.over_plain c p (meant.over_result p q others (result_schema s.fields q))) a
 
 fields_of_given : (fs : Fields) (q : Query) (t : Schema) → result_schema fs q ≡ Ok t → t.fields ≡ result_fields fs q
@@ -96,7 +97,7 @@ inner_given s q p plan o (Ok u) t b h a g is =
     (fields_of_given s.fields q (schema_view t) m, λ others. goes_on s q p plan o b h others ∙ ap₂ (λ c (x : Result Schema SubFault). meant.over_plain c p (meant.over_result p q others x)) a m)
 
 refused_by : (s : Schema) (q : Query) (p : PlacedQuery) (plan : Plan) (o : Option Order) (e : ResultFault) → IsBoundTo s q plan → meant.bind_order (plan_view plan).selection p.order ≡ Ok o → meant.is_arranged p ≡ false
-    → GivesSchema (result_schema s.fields q) (Err e) → (others : Schema → Result NestedQuery meant.NestedFault) → IsRefused (meant.then_over s p others (Ok q)) (fault_of_schema p e)
+    → GivesSchema (result_schema s.fields q) (Err e) → (others : Schema → Result NestedQuery refusals.NestedFault) → IsRefused (meant.then_over s p others (Ok q)) (fault_of_schema p e)
 refused_by s q p plan o ResultFault.NoMemory b h a g others = tt
 refused_by s q p plan o (ResultFault.Refused CodeSubFault.NotRecords) b h a g others =
     goes_on s q p plan o b h others ∙ ap₂ (λ c (x : Result Schema SubFault). meant.over_plain c p (meant.over_result p q others x)) a g
@@ -144,10 +145,10 @@ pub not_last_refused : (s : Schema) (p o : PlacedQuery) (os others : List Placed
 not_last_refused s p o os others plan b e (Ok x) h i is = absurd is
 not_last_refused s p o os others plan b e (Err x) h i is =
     subst (λ (us : List PlacedQuery). IsRefused (meant.bind_from us p s) x) (sym h)
-    (subst (λ (m : Result NestedQuery meant.NestedFault). IsRefused m x) (ap (meant.then_over s p (meant.bind_from os o)) (sym b.1))
+    (subst (λ (m : Result NestedQuery refusals.NestedFault). IsRefused m x) (ap (meant.then_over s p (meant.bind_from os o)) (sym b.1))
     (subst (IsRefused (meant.then_over s p (meant.bind_from os o) (Ok b.0))) (sym is) (i (meant.bind_from os o))))
 
-below_refused : (q : Query) (m : Result NestedQuery meant.NestedFault) (e : NestedFault) → IsRefused m e → IsRefused (meant.below q m) e
+below_refused : (q : Query) (m : Result NestedQuery refusals.NestedFault) (e : NestedFault) → IsRefused m e → IsRefused (meant.below q m) e
 below_refused q m NestedFault.NoMemory h = tt
 below_refused q m (NestedFault.Refused i w) h = ap (meant.below q) h
 
@@ -157,7 +158,7 @@ pub above_refused : (s : Schema) (p o : PlacedQuery) (os others : List PlacedQue
 above_refused s p o os others plan b t e (Ok x) h i w is = absurd is
 above_refused s p o os others plan b t e (Err x) h i w is =
     subst (λ (us : List PlacedQuery). IsRefused (meant.bind_from us p s) x) (sym h)
-    (subst (λ (m : Result NestedQuery meant.NestedFault). IsRefused m x) (sym (ap (meant.then_over s p (meant.bind_from os o)) b.1 ∙ i.1 (meant.bind_from os o)))
+    (subst (λ (m : Result NestedQuery refusals.NestedFault). IsRefused m x) (sym (ap (meant.then_over s p (meant.bind_from os o)) b.1 ∙ i.1 (meant.bind_from os o)))
     (subst (IsRefused (meant.below b.0 (meant.bind_from os o (schema_view t)))) (sym is) (below_refused b.0 (meant.bind_from os o (schema_view t)) e w)))
 
 pub above_bound : (s : Schema) (p o : PlacedQuery) (os others : List PlacedQuery) (plan : Plan) (b : BindsTo s p.query (Ok plan)) (t : CodeSchema) (above made : NestedPlan) → others ≡ o ∷ os

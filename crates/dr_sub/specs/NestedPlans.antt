@@ -13,6 +13,7 @@ use Rattle.dr_plan.specs.declared.plan.Plan.{Plan}
 use Rattle.dr_resolve.specs.Faults as binding
 use Rattle.dr_resolve.specs.declared.fault.BindFault.{BindFault}
 use Rattle.dr_sub_meaning.specs.Nested.{NestedQuery}
+use Rattle.dr_meaning.specs.Refusals as refusals
 use Rattle.dr_sub_meaning.specs.NestedBinding as meant
 use Rattle.dr_sub_meaning.specs.NestedParse.{PlacedQuery}
 use Rattle.dr_sub_meaning.specs.ResultRecords.{result_fields}
@@ -25,14 +26,14 @@ use Rattle.dr_sub.specs.declared.nested_plan.NestedPlan.{NestedPlan}
 
 -- ---- faults
 
-abbrev pub problem_view : NestedProblem → meant.NestedProblem
-problem_view (NestedProblem.Query p) = meant.in_query (binding.problem_view p)
-problem_view NestedProblem.BadOrder = meant.bad_order
-problem_view NestedProblem.NotRecords = meant.gives_no_records
-problem_view NestedProblem.ResultName = meant.bad_result_name
+abbrev pub problem_view : NestedProblem → refusals.NestedProblem
+problem_view (NestedProblem.Query p) = refusals.in_query (binding.problem_view p)
+problem_view NestedProblem.BadOrder = refusals.bad_order
+problem_view NestedProblem.NotRecords = refusals.gives_no_records
+problem_view NestedProblem.ResultName = refusals.bad_result_name
 
 -- the fault is what is meant; want of memory may come in place of anything
-abbrev pub IsRefused : {A : Type 0} → Result A meant.NestedFault → NestedFault → Type 0
+abbrev pub IsRefused : {A : Type 0} → Result A refusals.NestedFault → NestedFault → Type 0
 IsRefused m NestedFault.NoMemory = ⊤
 IsRefused m (NestedFault.Refused i p) = m ≡ Err (record { place = i; problem = problem_view p })
 
@@ -49,7 +50,7 @@ fault_of_schema p (ResultFault.Refused (SubFault.ResultName i)) = NestedFault.Re
 
 -- ---- orders
 
-abbrev pub BindsOrder : Result (Option Order) meant.NestedFault → Result (Option CodeOrder) NestedFault → Type 0
+abbrev pub BindsOrder : Result (Option Order) refusals.NestedFault → Result (Option CodeOrder) NestedFault → Type 0
 BindsOrder m (Ok o) = m ≡ Ok (option_map order_view o)
 BindsOrder m (Err f) = IsRefused m f
 
@@ -69,15 +70,15 @@ pub record IsNestedPlan (fs : Fields) (p : NestedPlan) (n : NestedQuery) : Type 
   pub limit : p.limit ≡ n.limit
 
 -- what is bound has these plans; or it is refused so
-abbrev pub BindsNested : Fields → Result NestedQuery meant.NestedFault → Result NestedPlan NestedFault → Type 0
+abbrev pub BindsNested : Fields → Result NestedQuery refusals.NestedFault → Result NestedPlan NestedFault → Type 0
 BindsNested fs m (Ok p) = (n : NestedQuery) × (m ≡ Ok n) × IsNestedPlan fs p n
 BindsNested fs m (Err f) = IsRefused m f
 
 -- an inner query goes on with those over what it gives, whatever these are; or it is refused so
 abbrev pub BindsInner : Schema → Query → PlacedQuery → Result CodeSchema NestedFault → Type 0
 BindsInner s q p (Ok t) = ((schema_view t).fields ≡ result_fields s.fields q)
-    × ((others : Schema → Result NestedQuery meant.NestedFault) → meant.then_over s p others (Ok q) ≡ meant.below q (others (schema_view t)))
-BindsInner s q p (Err f) = (others : Schema → Result NestedQuery meant.NestedFault) → IsRefused (meant.then_over s p others (Ok q)) f
+    × ((others : Schema → Result NestedQuery refusals.NestedFault) → meant.then_over s p others (Ok q) ≡ meant.below q (others (schema_view t)))
+BindsInner s q p (Err f) = (others : Schema → Result NestedQuery refusals.NestedFault) → IsRefused (meant.then_over s p others (Ok q)) f
 
 -- the same plans with this one below them
 pub record IsBelow (p : Plan) (above made : NestedPlan) : Type 0 where

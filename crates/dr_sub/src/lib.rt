@@ -25,6 +25,6 @@ pub use nested_fault::{NestedFault, NestedProblem};
 pub use nested_plan::NestedPlan;
 pub use placed::{Placed, PlacedList, Spot};
 pub use refusal::{TextFault, TextProblem};
-pub use schema::result_schema;
+pub use schema::{result_schema, schema_of_result};
 pub use striping::stripe_objects;
 pub use text::read_nested;

@@ -1,5 +1,5 @@
 -- Texts of queries over the results of others, answered and refused, by computation.
-use Rattle.std.specs.Prelude.{◌≡◌, ℕ, List, [], ◌∷◌, ◌++◌, Result, Ok, Err, codes, refl}
+use Rattle.std.specs.Prelude.{◌≡◌, ℕ, List, [], ◌∷◌, Result, Ok, Err, codes, refl}
 use Rattle.std.specs.Str.{chars}
 use Rattle.std.specs.Fmt.{digits}
 use Rattle.json.specs.Print.{escape_byte}
@@ -8,7 +8,8 @@ use Rattle.dr_meaning.specs.Print.{result_text}
 use Rattle.dr_meaning.specs.Query as plain
 use Rattle.dr_meaning.specs.Parse.{items as plain_items, keys, whole_expression, argument}
 use Rattle.dr_meaning.specs.Binding.{bind}
-use Rattle.dr_meaning.proofs.WorkedSchemas.{document, document_schema}
+use Rattle.dr_meaning.specs.Refusals.{QueryRefusal, query_refusal_text}
+use Rattle.dr_meaning.proofs.WorkedSchemas.{document_schema}
 use Rattle.dr_meaning.proofs.WorkedRecords.{record_10, record_20}
 use Rattle.dr_ordering.specs.Ordered.{in_order}
 use Rattle.dr_sub_meaning.specs.ResultRecords.{result_fields}
@@ -16,11 +17,11 @@ use Rattle.dr_sub_meaning.specs.ResultFaults.{result_schema}
 use Rattle.dr_sub_meaning.specs.Nested.{NestedQuery, answered, meaning, outer_fields, outer_records}
 use Rattle.dr_sub_meaning.specs.NestedParse.{parse_nested}
 use Rattle.dr_sub_meaning.specs.NestedBinding.{bind_nested}
-use Rattle.dr_sub_meaning.specs.NestedAsk.{NestedRefusal, read_nested, nested_answer_text, nested_refusal_text}
+use Rattle.dr_sub_meaning.specs.NestedAsk.{read_nested, nested_answer_text}
 
-abbrev said_of : Result NestedQuery NestedRefusal → List ℕ
+abbrev said_of : Result NestedQuery QueryRefusal → List ℕ
 said_of (Ok n) = nested_answer_text document_schema n (record_10 ∷ record_20 ∷ [])
-said_of (Err e) = nested_refusal_text e
+said_of (Err e) = query_refusal_text e
 
 -- what is said to a text over the two records
 abbrev said : List ℕ → List ℕ

@@ -1,44 +1,50 @@
--- The query of a text, with those in its FROM, over a schema, or why there is none; and what it prints.
-use Rattle.std.specs.Prelude.{ℕ, List, Result, Ok, Err, codes}
+-- Queries over records: the query of a text, with those in its FROM, or why there is none; what it prints; and the command `ask`.
+use Rattle.std.specs.Prelude.{ℕ, List, Result, Ok, Err}
 use Rattle.dr_meaning.specs.Schema.{Schema}
+use Rattle.dr_meaning.specs.SchemaText.{SchemaFault, parse_schema}
 use Rattle.dr_meaning.specs.Record.{Node}
 use Rattle.dr_meaning.specs.Parse as parse
 use Rattle.dr_meaning.specs.Print.{result_text}
-use Rattle.dr_meaning.specs.Refusals.{query_problem_name, bind_problem_name, query_fault_text}
+use Rattle.dr_meaning.specs.Lines.{Refusal, records_of}
+use Rattle.dr_meaning.specs.Refusals.{NestedFault, QueryRefusal, text_refused, binding_refused, CommandRefusal, schema_refused, query_refused, line_refused}
+use Rattle.dr_meaning.specs.Ask.{most_asked}
 use Rattle.dr_sub_meaning.specs.Nested.{NestedQuery, meaning}
 use Rattle.dr_sub_meaning.specs.NestedParse.{NestedSyntax, parse_nested}
-use Rattle.dr_sub_meaning.specs.NestedBinding.{NestedProblem, in_query, bad_order, gives_no_records, bad_result_name, NestedFault, bind_nested}
+use Rattle.dr_sub_meaning.specs.NestedBinding.{bind_nested}
 
--- why a query is refused: its text spells none, or the schema has no meaning for it
-pub data NestedRefusal : Type 0 where
-  text_refused : parse.QueryFault → NestedRefusal
-  binding_refused : NestedFault → NestedRefusal
+-- ---- the query of a text
 
-abbrev pub bound_or_refused : Result NestedQuery NestedFault → Result NestedQuery NestedRefusal
+abbrev pub bound_or_refused : Result NestedQuery NestedFault → Result NestedQuery QueryRefusal
 bound_or_refused (Ok n) = Ok n
 bound_or_refused (Err e) = Err (binding_refused e)
 
-abbrev pub bound_syntax : Schema → Result NestedSyntax parse.QueryFault → Result NestedQuery NestedRefusal
+abbrev pub bound_syntax : Schema → Result NestedSyntax parse.QueryFault → Result NestedQuery QueryRefusal
 bound_syntax s (Ok x) = bound_or_refused (bind_nested s x)
 bound_syntax s (Err e) = Err (text_refused e)
 
 -- the query of a text over a schema, or its first fault: that of the text, or else that of binding
-unfoldable pub read_nested : Schema → List ℕ → Result NestedQuery NestedRefusal
+unfoldable pub read_nested : Schema → List ℕ → Result NestedQuery QueryRefusal
 read_nested s text = bound_syntax s (parse_nested text)
 
 -- what a query prints on records
 unfoldable pub nested_answer_text : Schema → NestedQuery → List Node → List ℕ
 nested_answer_text s n R = result_text (meaning s.fields n R)
 
--- ---- the line that names a refusal
+-- ---- the command
 
-abbrev pub nested_problem_name : NestedProblem → List ℕ
-nested_problem_name (in_query p) = bind_problem_name p
-nested_problem_name bad_order = codes "BadOrder"
-nested_problem_name gives_no_records = codes "NotRecords"
-nested_problem_name bad_result_name = codes "ResultName"
+abbrev pub ask_records : Schema → NestedQuery → Result (List Node) Refusal → Result (List ℕ) CommandRefusal
+ask_records s n (Ok R) = Ok (nested_answer_text s n R)
+ask_records s n (Err e) = Err (line_refused e)
 
--- `refused query at B: WHAT`
-abbrev pub nested_refusal_text : NestedRefusal → List ℕ
-nested_refusal_text (text_refused e) = query_fault_text e.place (query_problem_name e.problem)
-nested_refusal_text (binding_refused e) = query_fault_text e.place (nested_problem_name e.problem)
+abbrev pub ask_query : ℕ → Schema → List ℕ → Result NestedQuery QueryRefusal → Result (List ℕ) CommandRefusal
+ask_query rows s input (Ok n) = ask_records s n (records_of s.fields (most_asked rows) input)
+ask_query rows s input (Err e) = Err (query_refused e)
+
+abbrev pub ask_schema : ℕ → List ℕ → List ℕ → Result Schema SchemaFault → Result (List ℕ) CommandRefusal
+ask_schema rows query input (Ok s) = ask_query rows s input (read_nested s query)
+ask_schema rows query input (Err e) = Err (schema_refused e)
+
+-- the text that `ask` prints of a schema text, a query and an input, with so many records to a tablet; or the first refusal: the schema, the
+-- query, then the lines in order
+unfoldable pub ask : ℕ → List ℕ → List ℕ → List ℕ → Result (List ℕ) CommandRefusal
+ask rows schema query input = ask_schema rows query input (parse_schema schema)

@@ -5,28 +5,13 @@ use Rattle.std.specs.List.{slice_get, join_with_byte}
 use Rattle.dr_meaning.specs.Schema.{Schema}
 use Rattle.dr_meaning.specs.Query.{Selection, Query}
 use Rattle.dr_meaning.specs.Syntax.{ItemSyntax}
-use Rattle.dr_meaning.specs.BoundExpression.{BindProblem, BindFault}
+use Rattle.dr_meaning.specs.BoundExpression.{BindFault}
+use Rattle.dr_meaning.specs.Refusals.{bad_order, gives_no_records, bad_result_name, NestedFault, fault_in_query}
 use Rattle.dr_meaning.specs.Binding.{bind}
 use Rattle.dr_sub_meaning.specs.ResultFaults.{SubFault, not_records, result_name, result_schema}
 use Rattle.dr_ordering.specs.Ordered.{Order, place_of_name, outermost_names}
 use Rattle.dr_sub_meaning.specs.Nested.{NestedQuery}
 use Rattle.dr_sub_meaning.specs.NestedParse.{OrderSyntax, PlacedQuery, NestedSyntax}
-
--- what binding refuses; that no item of the outermost object has the name by which the result is to go: told at the
--- path; that an inner query gives no records, or is put in order or cut: told at its SELECT; that it gives none with
--- such a name: told at the item
-pub data NestedProblem : Type 0 where
-  in_query : BindProblem → NestedProblem
-  bad_order : NestedProblem
-  gives_no_records : NestedProblem
-  bad_result_name : NestedProblem
-
-pub record NestedFault : Type 0 where
-  pub place : ℕ
-  pub problem : NestedProblem
-
-abbrev pub fault_in_query : BindFault → NestedFault
-fault_in_query f = record { place = f.place; problem = in_query f.problem }
 
 abbrev pub item_place : Option ItemSyntax → ℕ
 item_place None = 0

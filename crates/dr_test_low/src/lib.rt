@@ -1,5 +1,5 @@
-//! Tests of types and states, of real files, and of calls that no command shows: at each function stands why it can't be
-//! a case. What they show of each public call beside its contract: that it answers with ample memory.
+//! Tests of types and states, of real files, and of calls that no command shows: at each function stands why it can't
+//! be a case. What they show of each public call beside its contract: that it answers with ample memory.
 #![tactic(auto)]
 
 #[cfg(test)]

@@ -2,11 +2,11 @@
 
 ghost use Rattle.std.specs.Prelude.{◌≡◌};
 ghost use Rattle.dr_nested.specs.SchemaView.{schema_view};
-ghost use Rattle.dr_plan.specs.Planned.{IsOfSchema};
+ghost use Rattle.dr_sub.specs.Texts.{ArePlansOver};
 
 use dr_nested::Schema;
-use dr_plan::Plan;
 use dr_service::{Answer, Ground, PublishFault, Publisher, Room, Service};
+use dr_sub::NestedPlan;
 use std::alloc::Global;
 use std::marker::Brand;
 use std::sync::Wait;
@@ -33,12 +33,12 @@ pub fn publish_and_ask<B: Room + Send + Sync, R: Threads + Wait + Sync>(
     alloc: Global,
     ground: Ground,
     schema: &Schema,
-    plan: &Plan,
+    plans: &NestedPlan,
     files: Vec<Vec<u8>>,
 ) -> Result<Answer, PublishFault>
     requires ground { ground ≡ B.table }
     requires schema { schema_view schema.now ≡ B.schema }
-    requires planned { IsOfSchema B.schema plan.now }
+    requires planned { ArePlansOver B.schema plans.now }
 {
     let (service, mut publisher, mut askers) = Service::<B>::new(alloc, ground, schema, 1)?;
     let Some(mut asker) = askers.pop() else {
@@ -48,26 +48,26 @@ pub fn publish_and_ask<B: Room + Send + Sync, R: Threads + Wait + Sync>(
         rt,
         || publish_each(rt, alloc, &service, &mut publisher, files),
         ||
-            requires { IsOfSchema B.schema plan.now }
-        { service.query(rt, alloc, &mut asker, plan) },
+            requires { ArePlansOver B.schema plans.now }
+        { service.query(rt, alloc, &mut asker, plans) },
     );
     published?;
     answered?;
     let note = service.note(&mut publisher);
     service.learn(&mut asker, note);
-    Ok(service.query(rt, alloc, &mut asker, plan)?)
+    Ok(service.query(rt, alloc, &mut asker, plans)?)
 }
 
-/// What a plan's query means on the records of all these files. The service is named here.
+/// What a query means on the records of all these files. The service is named here.
 pub fn answer_of_files<R: Threads + Wait + Sync>(
     rt: &R,
     alloc: Global,
     schema: &Schema,
-    plan: &Plan,
+    plans: &NestedPlan,
     files: Vec<Vec<u8>>,
 ) -> Result<Answer, PublishFault>
-    requires { IsOfSchema (schema_view schema.now) plan.now }
+    requires { ArePlansOver (schema_view schema.now) plans.now }
 {
     let ground = Ground::new(alloc)?;
-    publish_and_ask::<Brand, R>(rt, alloc, ground, schema, plan, files)
+    publish_and_ask::<Brand, R>(rt, alloc, ground, schema, plans, files)
 }

@@ -5,17 +5,18 @@ use Rattle.dr_meaning.specs.Schema.{Schema}
 use Rattle.dr_meaning.specs.SchemaText.{SchemaFault, parse_schema}
 use Rattle.dr_meaning.specs.Record.{Node}
 use Rattle.dr_meaning.specs.Lines as line
-use Rattle.dr_meaning.specs.Query.{Query}
 use Rattle.dr_meaning.specs.Refusals.{QueryRefusal}
-use Rattle.dr_meaning.specs.Ask.{ask, ask_schema, ask_query, ask_records, answer_text, read_query, most_asked}
+use Rattle.dr_meaning.specs.Ask.{most_asked}
+use Rattle.dr_sub_meaning.specs.Nested.{NestedQuery}
+use Rattle.dr_sub_meaning.specs.NestedAsk.{ask, ask_schema, ask_query, ask_records, nested_answer_text, read_nested}
 use Rattle.dr_outside.specs.Faults.{raised}
 use Rattle.dr_outside.specs.Source.{SourceShown}
 use Rattle.dr_input.specs.Whole.{whole_lines}
 use Rattle.dr_input.specs.Taken.{AcceptsRead, WhereTold}
 use Rattle.dr_load.specs.Faults.{refusal_of as line_refusal_of}
 use Rattle.dr_load.specs.declared.fault.LoadFault.{LoadFault}
-use Rattle.dr_bind.specs.Faults.{IsRefusedAs, refusal_of}
-use Rattle.dr_bind.specs.declared.fault.QueryFault.{QueryFault}
+use Rattle.dr_sub.specs.Texts.{IsRefusedAs, refusal_of}
+use Rattle.dr_sub.specs.declared.refusal.TextFault.{TextFault}
 use Rattle.dr_commands.specs.Refusals.{Refusal as Refused, line_refused}
 use Rattle.dr_commands.specs.Meaning.{Look, plain, done, refused, puts_in, first_refusal, IsEarly}
 use Rattle.dr_commands.specs.Ask.{AskWords, ask_meaning}
@@ -36,23 +37,23 @@ ask_puts w look = plain_puts (ask w.rows look.file w.query look.input)
 -- ---- the query
 
 -- with a schema, the outcome is that of the query that is read
-by_query : (w : AskWords) (file text input : List ℕ) (s : Schema) (r : Result Query QueryRefusal) → text ≡ w.query → parse_schema file ≡ Ok s → read_query s text ≡ r → plain (ask w.rows file w.query input) ≡ plain (ask_query w.rows s input r)
+by_query : (w : AskWords) (file text input : List ℕ) (s : Schema) (r : Result NestedQuery QueryRefusal) → text ≡ w.query → parse_schema file ≡ Ok s → read_nested s text ≡ r → plain (ask w.rows file w.query input) ≡ plain (ask_query w.rows s input r)
 unfolding ask
 by_query w file text input s r t f e =
     ap (λ (x : Result Schema SchemaFault). plain (ask_schema w.rows w.query input x)) f
-    ∙ ap (λ (x : Result Query QueryRefusal). plain (ask_query w.rows s input x)) (ap (read_query s) (sym t) ∙ e)
+    ∙ ap (λ (x : Result NestedQuery QueryRefusal). plain (ask_query w.rows s input x)) (ap (read_nested s) (sym t) ∙ e)
 
-pub ask_query_early : (w : AskWords) (file text : List ℕ) (s : Schema) (fault : QueryFault) → text ≡ w.query → parse_schema file ≡ Ok s → IsRefusedAs (read_query s text) fault → StopsEarly (outcome_on (ask_meaning w) file) (query_stop fault)
-ask_query_early w file text s QueryFault.NoMemory t f h = tt
-ask_query_early w file text s (QueryFault.Refused n x) t f h = λ input. by_query w file text input s (Err (refusal_of n x)) t f h
+pub ask_query_early : (w : AskWords) (file text : List ℕ) (s : Schema) (fault : TextFault) → text ≡ w.query → parse_schema file ≡ Ok s → IsRefusedAs (read_nested s text) fault → StopsEarly (outcome_on (ask_meaning w) file) (query_stop fault)
+ask_query_early w file text s TextFault.NoMemory t f h = tt
+ask_query_early w file text s (TextFault.Refused n x) t f h = λ input. by_query w file text input s (Err (refusal_of n x)) t f h
 
 -- ---- the records
 
-late : (s : Schema) (q : Query) (recs : Result (List Node) line.Refusal) (r : Refused) → IsEarly r → first_refusal (plain (ask_records s q recs)) ≡ Some r → ⊥
+late : (s : Schema) (q : NestedQuery) (recs : Result (List Node) line.Refusal) (r : Refused) → IsEarly r → first_refusal (plain (ask_records s q recs)) ≡ Some r → ⊥
 late s q (Ok ns) r early e = cc
 late s q (Err x) r early e = let is : line_refused x ≡ r = cc in subst (λ (y : Refused). IsEarly y) (sym is) early
 
-module _ (w : AskWords) (file text : List ℕ) (s : Schema) (q : Query) (t : text ≡ w.query) (f : parse_schema file ≡ Ok s) (n : read_query s text ≡ Ok q) where
+module _ (w : AskWords) (file text : List ℕ) (s : Schema) (q : NestedQuery) (t : text ≡ w.query) (f : parse_schema file ≡ Ok s) (n : read_nested s text ≡ Ok q) where
   -- the outcome is that of the records that are read
   by_records : (input : List ℕ) (r : Result (List Node) line.Refusal) → line.records_of s.fields (most_asked w.rows) input ≡ r → outcome_on (ask_meaning w) file input ≡ plain (ask_records s q r)
   by_records input r h = by_query w file text input s (Ok q) t f n ∙ ap (λ (x : Result (List Node) line.Refusal). plain (ask_records s q x)) h
@@ -80,8 +81,8 @@ module _ (w : AskWords) (file text : List ℕ) (s : Schema) (q : Query) (t : tex
 
   -- ---- the text
 
-  pub ask_ends : (i : SourceShown) (out : List ℕ) → WhereTold i.left (λ input. (R : List Node) × (line.records_of s.fields (most_asked w.rows) input ≡ Ok R) × (out ≡ answer_text s q R))
+  pub ask_ends : (i : SourceShown) (out : List ℕ) → WhereTold i.left (λ input. (R : List Node) × (line.records_of s.fields (most_asked w.rows) input ≡ Ok R) × (out ≡ nested_answer_text s q R))
       → WhereTold i.left (λ input. outcome_on (ask_meaning w) file input ≡ done out [])
   ask_ends i out h =
-      told_so i.left (λ input. (R : List Node) × (line.records_of s.fields (most_asked w.rows) input ≡ Ok R) × (out ≡ answer_text s q R)) (λ input. outcome_on (ask_meaning w) file input ≡ done out [])
+      told_so i.left (λ input. (R : List Node) × (line.records_of s.fields (most_asked w.rows) input ≡ Ok R) × (out ≡ nested_answer_text s q R)) (λ input. outcome_on (ask_meaning w) file input ≡ done out [])
       (λ input g. by_records input (Ok g.0) g.1 ∙ ap (λ (y : List ℕ). done y []) (sym g.2)) h

@@ -2,9 +2,8 @@
 use Rattle.std.specs.Prelude.{◌≡◌, ◌<◌, ◌*◌, ◌-◌, ℕ, zero, suc, List, [], ◌∷◌, length, map, take, Option, Result, Ok, Err}
 use Rattle.std.proofs.Common.{refl, sym, ap, ◌∙◌, subst, arith}
 use Rattle.dr_meaning.specs.Path.{Leaf}
-use Rattle.dr_meaning.specs.Query as meant
-use Rattle.dr_meaning.specs.QueryLeaves.{query_leaves}
-use Rattle.dr_meaning.specs.Ask.{read_query}
+use Rattle.dr_sub_meaning.specs.Nested.{NestedQuery, query_leaves}
+use Rattle.dr_sub_meaning.specs.NestedAsk.{read_nested}
 use Rattle.dr_meaning.specs.Refusals.{QueryRefusal}
 use Rattle.dr_formats.specs.TableFile.{Table, TableFault, parse_table}
 use Rattle.dr_outside.specs.Link.{LinkShown}
@@ -18,8 +17,8 @@ use Rattle.dr_serve.specs.Counted.{AreLeftOf}
 use Rattle.dr_serve.specs.Rounds.{Rounds, OfEachFrom, IsRoundAt}
 use Rattle.dr_serve.proofs.FinishLemmas.{count_of}
 use Rattle.dr_serve.specs.Answers.{IsAnswerBut}
-use Rattle.dr_bind.specs.Faults.{IsRefusedAs, refusal_of}
-use Rattle.dr_bind.specs.declared.fault.QueryFault.{QueryFault}
+use Rattle.dr_sub.specs.Texts.{IsRefusedAs, refusal_of}
+use Rattle.dr_sub.specs.declared.refusal.TextFault.{TextFault}
 use Rattle.dr_commands.specs.Meaning.{Look, Outcome, serves, puts_in}
 use Rattle.dr_commands.specs.Query.{QueryWords, query_meaning, query_scan, query_table, query_read}
 use Rattle.dr_top.specs.World.{outcome_on, WithEach}
@@ -35,14 +34,14 @@ query_refuses_table w look e h = ap (query_table w.serving.workers w.least w.que
 -- ---- the outcome
 
 -- with a table, the outcome is that of the query that is read
-by_query : (w : QueryWords) (file text : List ℕ) (t : Table) (r : Result meant.Query QueryRefusal) → text ≡ w.query → parse_table file ≡ Ok t → read_query t.schema text ≡ r
+by_query : (w : QueryWords) (file text : List ℕ) (t : Table) (r : Result NestedQuery QueryRefusal) → text ≡ w.query → parse_table file ≡ Ok t → read_nested t.schema text ≡ r
     → query_table w.serving.workers w.least w.query (parse_table file) ≡ query_read w.serving.workers w.least t r
 by_query w file text t r q f e =
-    ap (query_table w.serving.workers w.least w.query) f ∙ ap (query_read w.serving.workers w.least t) (ap (read_query t.schema) (sym q) ∙ e)
+    ap (query_table w.serving.workers w.least w.query) f ∙ ap (query_read w.serving.workers w.least t) (ap (read_nested t.schema) (sym q) ∙ e)
 
-pub query_read_early : (w : QueryWords) (file text : List ℕ) (t : Table) (fault : QueryFault) → text ≡ w.query → parse_table file ≡ Ok t → IsRefusedAs (read_query t.schema text) fault → StopsEarly (outcome_on (query_meaning w) file) (query_stop fault)
-query_read_early w file text t QueryFault.NoMemory q f h = tt
-query_read_early w file text t (QueryFault.Refused n x) q f h = λ input. by_query w file text t (Err (refusal_of n x)) q f h
+pub query_read_early : (w : QueryWords) (file text : List ℕ) (t : Table) (fault : TextFault) → text ≡ w.query → parse_table file ≡ Ok t → IsRefusedAs (read_nested t.schema text) fault → StopsEarly (outcome_on (query_meaning w) file) (query_stop fault)
+query_read_early w file text t TextFault.NoMemory q f h = tt
+query_read_early w file text t (TextFault.Refused n x) q f h = λ input. by_query w file text t (Err (refusal_of n x)) q f h
 
 -- what the first so many links show
 taken : {A : Type 0} (shows : A → LinkShown) (n : ℕ) (ls : List A) → map shows (take n ls) ≡ take n (map shows ls)
@@ -68,7 +67,7 @@ each_read t F link k zero (r ∷ rs) e h = absurd (omega (arith, e))
 each_read t F link k (suc n) [] e h = absurd (omega (arith, e))
 each_read t F link k (suc n) (r ∷ rs) e h = (h.0, each_read t F link (suc k) n rs (omega (arith, e)) h.1)
 
-closed_of : (t : Table) (q : meant.Query) (before now : LinkShown) (left : List LeftTablet) → Rounds t (query_leaves t.schema.fields q) before now left → IsClosed (query_scan t q) before now left
+closed_of : (t : Table) (q : NestedQuery) (before now : LinkShown) (left : List LeftTablet) → Rounds t (query_leaves t.schema.fields q) before now left → IsClosed (query_scan t q) before now left
 closed_of t q before now left h = record {
   middle = h.middle;
   same = h.same;
@@ -80,7 +79,7 @@ closed_of t q before now left h = record {
   left_are = h.read.left_are;
 }
 
-module _ {A : Type 0} (w : QueryWords) (shows : A → LinkShown) (ls : List A) (n : ℕ) (file text : List ℕ) (t : Table) (q : meant.Query) (e : text ≡ w.query) (m : n ≡ w.serving.workers) (f : parse_table file ≡ Ok t) (r : read_query t.schema text ≡ Ok q) where
+module _ {A : Type 0} (w : QueryWords) (shows : A → LinkShown) (ls : List A) (n : ℕ) (file text : List ℕ) (t : Table) (q : NestedQuery) (e : text ≡ w.query) (m : n ≡ w.serving.workers) (f : parse_table file ≡ Ok t) (r : read_nested t.schema text ≡ Ok q) where
   by : (P : Outcome → Type 0) → P (serves (query_scan t q) w.serving.workers w.least) → P (outcome_on (query_meaning w) file [])
   by P h = subst P (sym (by_query w file text t (Ok q) e f r)) h
 
@@ -119,12 +118,12 @@ module _ {A : Type 0} (w : QueryWords) (shows : A → LinkShown) (ls : List A) (
 
 -- ---- nothing is put
 
-read_puts : (n least : ℕ) (t : Table) (r : Result meant.Query QueryRefusal) → puts_in (query_read n least t r) ≡ []
+read_puts : (n least : ℕ) (t : Table) (r : Result NestedQuery QueryRefusal) → puts_in (query_read n least t r) ≡ []
 read_puts n least t (Ok q) = refl
 read_puts n least t (Err e) = refl
 
 table_puts : (n least : ℕ) (query : List ℕ) (r : Result Table TableFault) → puts_in (query_table n least query r) ≡ []
-table_puts n least query (Ok t) = read_puts n least t (read_query t.schema query)
+table_puts n least query (Ok t) = read_puts n least t (read_nested t.schema query)
 table_puts n least query (Err e) = refl
 
 pub query_puts : (w : QueryWords) (look : Look) → puts_in ((query_meaning w).outcome look) ≡ []

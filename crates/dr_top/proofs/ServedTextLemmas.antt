@@ -7,7 +7,6 @@ use Rattle.std.proofs.lemmas.List.{map-append}
 use Rattle.dr_meaning.specs.Schema.{Schema}
 use Rattle.dr_meaning.specs.Path.{Leaf, is_leaf_path, paths_of_leaves}
 use Rattle.dr_meaning.specs.Record.{Node, project}
-use Rattle.dr_meaning.proofs.QueryLeavesLemmas.{query_leaves_are_leaves}
 use Rattle.dr_outside.specs.Link.{Files}
 use Rattle.dr_reading.specs.Scan.{Copy, copy_paths, joined, tablets_of}
 use Rattle.dr_reading.specs.Given.{IsFileThere, SomeIsFile, IsGiven}
@@ -17,7 +16,7 @@ use Rattle.dr_reading.proofs.ReadingLemmas.{given_are_projected}
 use Rattle.dr_reading.specs.ServingPremises.{AllTell}
 use Rattle.dr_serve.specs.Counted.{OneGives, AreCounted, no_more, is_counted, is_not_counted}
 use Rattle.dr_commands.specs.Query.{query_scan}
-use Rattle.dr_commands.proofs.ScanLemmas.{query_sees_leaves_alone}
+use Rattle.dr_commands.proofs.ScanLemmas.{nested_leaves_are_leaves, query_sees_leaves_alone}
 use Rattle.dr_top.specs.ServedLaws.{counted_records, ServedPrintsMeaning}
 
 -- ---- which tablets are left
@@ -84,6 +83,6 @@ module _ (s : Schema) (F : List Leaf) (files : Files) where
         ∙ ap (λ (Xs : List (List Node)). map (project (paths_of_leaves F)) (joined Xs)) (sym (left_next u tried more R Rs))
 
 pub served_prints_meaning : ServedPrintsMeaning
-served_prints_meaning t text q files links left Rs Ss read tell hold counted =
-    query_sees_leaves_alone t text q read (joined Ss) (joined (counted_records 0 left Rs))
-    (counted_projected t.schema (query_scan t q).leaves files (query_leaves_are_leaves t.schema.fields q) links tell 0 (tablets_of t) left Rs Ss hold counted)
+served_prints_meaning t text n files links left Rs Ss read tell hold counted =
+    query_sees_leaves_alone t text n read (joined Ss) (joined (counted_records 0 left Rs))
+    (counted_projected t.schema (query_scan t n).leaves files (nested_leaves_are_leaves t.schema n) links tell 0 (tablets_of t) left Rs Ss hold counted)

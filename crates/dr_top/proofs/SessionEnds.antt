@@ -3,7 +3,7 @@ use Rattle.std.specs.Prelude.{◌≡◌, ℕ, List, [], ◌∷◌, ◌++◌, suc
 use Rattle.std.proofs.Common.{refl, sym, ap, ◌∙◌, subst}
 use Rattle.dr_meaning.specs.Schema.{Schema}
 use Rattle.dr_meaning.specs.Lines.{lines_of}
-use Rattle.dr_meaning.specs.Session.{Session, Heard, SessionFault, SessionRefusal, Spoken, heard, new_session, spoken, spoken_behind, spoken_from}
+use Rattle.dr_sub_meaning.specs.Session.{Session, Heard, SessionFault, SessionRefusal, Spoken, heard, new_session, spoken, spoken_behind, spoken_from}
 use Rattle.dr_input.specs.Whole.{whole_lines}
 use Rattle.dr_input.proofs.WholeLemmas.{whole_front, whole_twice, lines_behind}
 use Rattle.dr_commands.specs.Refusals.{Refusal, session_refused}

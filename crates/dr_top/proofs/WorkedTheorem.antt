@@ -7,12 +7,16 @@ use Rattle.dr_meaning.specs.SchemaText.{parse_schema}
 use Rattle.dr_meaning.specs.Path.{Leaf}
 use Rattle.dr_meaning.specs.Record.{Node, int_value}
 use Rattle.dr_meaning.specs.Expression.{path_value}
-use Rattle.dr_meaning.specs.Query.{Query, sum, count_rows, aggregate, groups, cell, no_entries, meaning}
-use Rattle.dr_meaning.specs.QueryLeaves.{query_leaves}
-use Rattle.dr_meaning.specs.Parse.{parse_query, items, argument, whole_expression}
+use Rattle.dr_meaning.specs.Query as plain
+use Rattle.dr_meaning.specs.Query.{sum, count_rows, aggregate, groups, cell, no_entries}
+use Rattle.dr_meaning.specs.QueryLeaves as plain_leaves
+use Rattle.dr_meaning.specs.Parse.{items as plain_items, keys, argument, whole_expression}
 use Rattle.dr_meaning.specs.Binding.{bind}
 use Rattle.dr_meaning.specs.Print.{result_text}
-use Rattle.dr_meaning.specs.Ask.{read_query, answer_text}
+use Rattle.dr_sub_meaning.specs.Nested.{NestedQuery, answered, meaning, outer_fields, outer_records, query_leaves}
+use Rattle.dr_sub_meaning.specs.NestedParse.{parse_nested}
+use Rattle.dr_sub_meaning.specs.NestedBinding.{bind_nested}
+use Rattle.dr_sub_meaning.specs.NestedAsk.{read_nested, nested_answer_text}
 use Rattle.dr_formats.specs.TableFile.{Table, parse_table}
 use Rattle.dr_formats.specs.File.{IsFileOf}
 use Rattle.dr_formats.proofs.WorkedFiles.{one_schema, one_record, one_file}
@@ -72,18 +76,23 @@ no_file F S h = let e = sym no_footer ∙ h.1 in cc
 -- ---- the query
 
 -- SELECT COUNT(*) AS n, SUM(a) AS s FROM T
-abbrev totals : Query
+abbrev totals : NestedQuery
 totals = record {
-  condition = None;
-  selection = groups [] (record { name = codes "n"; term = count_rows } ∷ record { name = codes "s"; term = aggregate sum (path_value path_of_a) } ∷ []);
+  inner = [];
+  outer = record {
+    condition = None;
+    selection = groups [] (record { name = codes "n"; term = count_rows } ∷ record { name = codes "s"; term = aggregate sum (path_value path_of_a) } ∷ []);
+  };
+  order = None;
+  limit = None;
 }
 
-pub totals_are_read : read_query one_schema totals_text ≡ Ok totals
-unfolding read_query parse_query items argument whole_expression bind is_utf8 chars lib.Utf8.encode
+pub totals_are_read : read_nested one_schema totals_text ≡ Ok totals
+unfolding read_nested parse_nested plain_items keys argument whole_expression bind_nested bind is_utf8 chars lib.Utf8.encode
 totals_are_read = refl
 
 its_leaves : query_leaves one_schema.fields totals ≡ the_leaf ∷ []
-unfolding query_leaves
+unfolding query_leaves plain_leaves.query_leaves
 its_leaves = refl
 
 is_file : IsFileOf one_file one_schema (query_leaves one_schema.fields totals) one
@@ -110,7 +119,7 @@ two_tablets_asked = record {
 
 -- so where memory is ample the program prints these rows
 pub two_tablets_mean : answer_of two_tablets_asked ≡ result_text (cell (codes "n") (Some (int_value (pos 2))) (cell (codes "s") (Some (int_value (pos 2))) no_entries) ∷ [])
-unfolding answer_text meaning
+unfolding nested_answer_text answered meaning outer_fields outer_records plain.meaning
 two_tablets_mean = refl
 
 -- ---- the law of queries that links serve, by two links that hold the same
@@ -125,7 +134,7 @@ tablets_hold = ((inr (no_file _), (inl is_file, tt)), ((inl is_file, (inl is_fil
 both_counted : AreCounted one_schema (query_leaves one_schema.fields totals) (Some files ∷ Some files ∷ []) 0 copies [] (one ∷ one ∷ [])
 both_counted = is_counted 0 _ _ [] one (one ∷ []) (inl (inr (inl is_file))) (is_counted 1 _ [] [] one [] (inr (inl (inl is_file))) (no_more 2))
 
-pub served_prints_totals : (query_scan table totals).text (joined (one ∷ one ∷ [])) ≡ answer_text one_schema totals (one_record ∷ one_record ∷ [])
+pub served_prints_totals : (query_scan table totals).text (joined (one ∷ one ∷ [])) ≡ nested_answer_text one_schema totals (one_record ∷ one_record ∷ [])
 served_prints_totals =
     served_prints_meaning table totals_text totals files (Some files ∷ Some files ∷ []) [] (one ∷ one ∷ []) (one ∷ one ∷ []) totals_are_read both_tell
     (subst (λ (ts : List (List Copy)). TabletsHold one_schema (query_leaves one_schema.fields totals) files ts (one ∷ one ∷ [])) (sym copies_are) tablets_hold)

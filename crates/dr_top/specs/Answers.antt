@@ -1,7 +1,7 @@
 -- What the words of a command line are answered with.
 use Rattle.std.specs.Prelude.{◌≡◌, true, false, List, [], ◌∷◌, ◌++◌, ℕ, zero, suc, ⊤, ◌⊎◌, Option, Some, None}
 use Rattle.dr_meaning.specs.Schema.{Schema}
-use Rattle.dr_meaning.specs.Session.{spoken}
+use Rattle.dr_sub_meaning.specs.Session.{spoken}
 use Rattle.dr_nested.specs.SchemaView.{schema_view}
 use Rattle.dr_formats.specs.Opening.{Range, end_ranges, footer_ranges}
 use Rattle.dr_outside.specs.Source.{SourceShown}

@@ -1,7 +1,7 @@
 -- How a session over the input ends where it stops before the input's end, with what is told on standard error.
 use Rattle.std.specs.Prelude.{codes, ◌⊎◌}
 use Rattle.dr_meaning.specs.Schema.{Schema}
-use Rattle.dr_meaning.specs.Session.{SessionRefusal, session_refusal_text}
+use Rattle.dr_sub_meaning.specs.Session.{SessionRefusal, session_refusal_text}
 use Rattle.dr_outside.specs.Source.{SourceShown}
 use Rattle.dr_outside.specs.Sink.{SinkShown}
 use Rattle.dr_session.specs.Talking.{IsRefused, IsUnread, IsUnwritten, IsWanting}

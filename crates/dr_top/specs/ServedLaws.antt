@@ -1,8 +1,8 @@
 -- A law of queries that links serve.
 use Rattle.std.specs.Prelude.{◌≡◌, ℕ, suc, List, [], ◌∷◌, Option, Ok, if◌then◌else◌, nat_eq}
 use Rattle.dr_meaning.specs.Record.{Node}
-use Rattle.dr_meaning.specs.Query as meant
-use Rattle.dr_meaning.specs.Ask.{read_query, answer_text}
+use Rattle.dr_sub_meaning.specs.Nested.{NestedQuery}
+use Rattle.dr_sub_meaning.specs.NestedAsk.{read_nested, nested_answer_text}
 use Rattle.dr_formats.specs.TableFile.{Table}
 use Rattle.dr_outside.specs.Link.{Files}
 use Rattle.dr_reading.specs.Left.{LeftTablet}
@@ -22,6 +22,6 @@ counted_records t (l ∷ left) (R ∷ Rs) = if nat_eq l.tablet t then counted_re
 -- records, or nothing: what is printed of the records that are counted is what the query means on the records of the tablets that aren't left, each
 -- counted once, whichever link gave them
 abbrev pub ServedPrintsMeaning : Type 0
-ServedPrintsMeaning = (t : Table) (text : List ℕ) (q : meant.Query) (files : Files) (links : List (Option Files)) (left : List LeftTablet) (Rs Ss : List (List Node))
-    → read_query t.schema text ≡ Ok q → AllTell files links → TabletsHold t.schema (query_scan t q).leaves files (tablets_of t) Rs
-    → AreCounted t.schema (query_scan t q).leaves links 0 (tablets_of t) left Ss → (query_scan t q).text (joined Ss) ≡ answer_text t.schema q (joined (counted_records 0 left Rs))
+ServedPrintsMeaning = (t : Table) (text : List ℕ) (n : NestedQuery) (files : Files) (links : List (Option Files)) (left : List LeftTablet) (Rs Ss : List (List Node))
+    → read_nested t.schema text ≡ Ok n → AllTell files links → TabletsHold t.schema (query_scan t n).leaves files (tablets_of t) Rs
+    → AreCounted t.schema (query_scan t n).leaves links 0 (tablets_of t) left Ss → (query_scan t n).text (joined Ss) ≡ nested_answer_text t.schema n (joined (counted_records 0 left Rs))

@@ -27,8 +27,8 @@ use Rattle.dr_top.specs.Reading.{IsLeftWith, HasMost, IsFileLeft, LeavesFile}
 use Rattle.dr_table.specs.LeftViews.{all_left_view}
 use Rattle.dr_load.specs.Words.{words_problem_view}
 use Rattle.dr_load.specs.declared.words.WordsProblem.{WordsProblem}
-use Rattle.dr_bind.specs.Faults.{refusal_of as query_refusal_of}
-use Rattle.dr_bind.specs.declared.fault.QueryFault.{QueryFault}
+use Rattle.dr_sub.specs.Texts.{refusal_of as query_refusal_of}
+use Rattle.dr_sub.specs.declared.refusal.TextFault.{TextFault}
 use Rattle.dr_top.specs.declared.refusal.Refusal.{Refusal}
 use Rattle.dr_top.specs.declared.field.FieldFault.{FieldFault}
 use Rattle.dr_top.specs.declared.stop.Stop.{Stop}
@@ -172,9 +172,9 @@ abbrev pub field_stop : FieldFault → Stop
 field_stop FieldFault.NoMemory = Stop.NoMemory
 field_stop (FieldFault.Refused n w) = Stop.Refused (Refusal.Field n w)
 
-abbrev pub query_stop : QueryFault → Stop
-query_stop QueryFault.NoMemory = Stop.NoMemory
-query_stop (QueryFault.Refused place p) = Stop.Refused (Refusal.Query place p)
+abbrev pub query_stop : TextFault → Stop
+query_stop TextFault.NoMemory = Stop.NoMemory
+query_stop (TextFault.Refused place p) = Stop.Refused (Refusal.Query place p)
 
 abbrev pub input_stop : InputFault → Stop
 input_stop InputFault.NoMemory = Stop.NoMemory

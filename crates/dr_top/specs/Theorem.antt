@@ -4,9 +4,8 @@ use Rattle.std.specs.Prelude.{◌≡◌, ◌⊎◌, ◌++◌, ℕ, List, [], ◌
 use Rattle.dr_meaning.specs.Schema.{Schema}
 use Rattle.dr_meaning.specs.Path.{Leaf}
 use Rattle.dr_meaning.specs.Record.{Node}
-use Rattle.dr_meaning.specs.Query.{Query}
-use Rattle.dr_meaning.specs.QueryLeaves.{query_leaves}
-use Rattle.dr_meaning.specs.Ask.{read_query, answer_text}
+use Rattle.dr_sub_meaning.specs.Nested.{NestedQuery, query_leaves}
+use Rattle.dr_sub_meaning.specs.NestedAsk.{read_nested, nested_answer_text}
 use Rattle.dr_formats.specs.TableFile.{Table, parse_table}
 use Rattle.dr_outside.specs.Faults.{raised}
 use Rattle.dr_outside.specs.Failing.{is_quiet}
@@ -46,9 +45,9 @@ pub record AsksTable (words : List (List ℕ)) (tables files : Files) : Type 0 w
   pub there : tables query.table ≡ Some bytes
   pub table : Table
   pub is_table : parse_table bytes ≡ Ok table
-  -- the query's text writes a query over the table's schema
-  pub plan : Query
-  pub is_query : read_query table.schema query.query ≡ Ok plan
+  -- the query's text writes a query over the table's schema, with those in its FROM
+  pub plan : NestedQuery
+  pub is_query : read_nested table.schema query.query ≡ Ok plan
   -- each tablet has records, and copies that hold them
   pub records : List (List Node)
   pub held : AreHeld table.schema (query_leaves table.schema.fields plan) files (tablets_of table) records
@@ -57,7 +56,7 @@ pub record AsksTable (words : List (List ℕ)) (tables files : Files) : Type 0 w
 
 -- what the query means on all tablets' records, each counted once, as a text
 abbrev pub answer_of : {words : List (List ℕ)} {tables files : Files} → AsksTable words tables files → List ℕ
-answer_of a = answer_text a.table.schema a.plan (joined a.records)
+answer_of a = nested_answer_text a.table.schema a.plan (joined a.records)
 
 -- the status is 0, and out gained exactly this text; or memory ran out: for the program, whose status is 5, or for out, which failed, and the status is 4
 abbrev pub PrintsText : List ℕ → ℕ → SinkState → SinkState → Type 0

@@ -7,20 +7,20 @@ ghost use Rattle.dr_json.specs.Faults.{record_problem_view};
 ghost use Rattle.dr_formats.specs.Reports.{table_fault_name, table_refusal_text, words_refusal_text};
 ghost use Rattle.dr_table.specs.Faults.{problem_view as table_problem_view};
 ghost use Rattle.dr_commands.specs.Refusals.{refusal_text};
-ghost use Rattle.dr_meaning.specs.Session.{session_fault_name, session_refusal_text};
+ghost use Rattle.dr_sub_meaning.specs.Session.{session_fault_name, session_refusal_text};
 ghost use Rattle.dr_session.specs.Faults.{problem_view as session_problem_view};
 ghost use Rattle.dr_load.specs.Words.{words_problem_view};
-ghost use Rattle.dr_bind.specs.Faults.{refusal_of as query_refusal_of};
+ghost use Rattle.dr_sub.specs.Texts.{refusal_of as query_refusal_of};
 ghost use Rattle.dr_input.specs.Faults.{line_problem_view};
 ghost use Rattle.dr_top.specs.Stops.{refusal_view};
 
 use crate::report::Report;
-use dr_bind::QueryProblem;
 use dr_input::LineProblem;
 use dr_json::RecordProblem;
 use dr_load::WordsProblem;
 use dr_nested::{PathProblem, SchemaProblem};
 use dr_session::SessionProblem;
+use dr_sub::TextProblem;
 use dr_table::TableProblem;
 use itoa::Buffer;
 
@@ -44,7 +44,7 @@ pub enum Refusal {
     /// The query's first problem, at its byte place in the query's text.
     Query {
         place: usize,
-        problem: QueryProblem,
+        problem: TextProblem,
     },
     /// The first line that is refused, counted from 1.
     Line {
@@ -250,7 +250,7 @@ fn session_report(number: u64, problem: SessionProblem) -> Report
 }
 
 /// `refused query at B: WHAT`.
-fn query_report(place: usize, problem: QueryProblem) -> Report
+fn query_report(place: usize, problem: TextProblem) -> Report
     ensures { result ≡ query_refusal_text (query_refusal_of place problem) }
 {
     let mut report = Report::new();

@@ -6,13 +6,13 @@ ghost use Rattle.dr_top.specs.Stops.{words_stop, schema_stop, table_stop, keeper
 
 use crate::field::FieldFault;
 use crate::refusal::Refusal;
-use dr_bind::QueryFault;
 use dr_file::FileFault;
 use dr_input::{InputFault, LineProblem};
 use dr_load::{LoadFault, WordsProblem};
 use dr_memory::NoMemory;
 use dr_nested::SchemaFault;
 use dr_outside::{Cause, Fault};
+use dr_sub::TextFault;
 use dr_table::{LeftTablet, TableFault};
 use dr_words::WordsFault;
 use std::alloc::AllocFailed;
@@ -145,13 +145,13 @@ impl From<FieldFault> for Stop {
     }
 }
 
-impl From<QueryFault> for Stop {
+impl From<TextFault> for Stop {
     ghost from_gives = { λ fault stop. stop ≡ query_stop fault };
 
-    fn from(fault: QueryFault) -> Stop {
+    fn from(fault: TextFault) -> Stop {
         match fault {
-            QueryFault::NoMemory => Stop::NoMemory,
-            QueryFault::Refused { place, problem } => {
+            TextFault::NoMemory => Stop::NoMemory,
+            TextFault::Refused { place, problem } => {
                 Stop::Refused(Refusal::Query { place, problem })
             }
         }

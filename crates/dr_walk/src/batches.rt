@@ -129,8 +129,8 @@ pub fn step_over<'a>(
     rests: &mut [Triplets<'a>],
     ended: &[bool],
 ) -> Result<Turned<'a>, AssembleFault>
-    // It goes on over whatever columns begin so; at its end records have them, and the moves were those of their walk; a
-    // refusal says that none have them.
+    // It goes on over whatever columns begin so; at its end records have them, and the moves were those of their walk;
+    // a refusal says that none have them.
     ensures goes { OverBatches walk.old (rest_at rests.old) ended.now (λ fs F C rows ms later.
         GoesOver fs F C rows ms later walk.new (rest_at rests.new) result) }
     // Whatever the columns, a move nests on those before it.

@@ -24,8 +24,8 @@ use dr_levels::Levels;
 use dr_nested::{Kind, NoMemory, Schema, Step};
 use std::alloc::Global;
 
-/// A walk over the columns of the selected leaves of records, by levels alone: it takes the levels of their triplets one
-/// at a time, each where they are wanted, and gives the moves of the records, in reading order. A leaf's move comes
+/// A walk over the columns of the selected leaves of records, by levels alone: it takes the levels of their triplets
+/// one at a time, each where they are wanted, and gives the moves of the records, in reading order. A leaf's move comes
 /// before the leaf's next triplet is wanted, so the value can be taken then.
 #[derive(Drop)]
 pub struct LevelWalk {
@@ -121,8 +121,8 @@ impl LevelWalk {
     }
 
     /// Takes the levels of the next triplet of the leaf that is wanted, none at its column's end, and gives the next
-    /// move, none where more is wanted first, and none once all was given. The move of a leaf asks for a value; where it
-    /// isn't there, no records have the columns, and the walk is to be refused.
+    /// move, none where more is wanted first, and none once all was given. The move of a leaf asks for a value; where
+    /// it isn't there, no records have the columns, and the walk is to be refused.
     ///
     /// Errors: no records have columns that go on so; want of memory. A walk repeats its refusal from then on.
     #[inline(always)]

@@ -34,8 +34,8 @@ fn words_of(rt: &HostRuntime, alloc: Global) -> Result<Vec<String>, AllocError> 
     }
 }
 
-/// The device that holds nothing in the place of a standard stream that is closed, if one is. The lowest free descriptor
-/// is taken first.
+/// The device that holds nothing in the place of a standard stream that is closed, if one is. The lowest free
+/// descriptor is taken first.
 fn stand_in(rt: &HostRuntime) -> Option<File> {
     match fs::open(rt, NOTHING) {
         Ok(file) if file.as_raw_fd() <= LAST_STANDARD => Some(file),

@@ -11,11 +11,11 @@ ghost use Rattle.dr_top.specs.Stops.{StopsReading, IsReadBy};
 use crate::output::Output;
 use crate::service::{ALL_TABLETS, service_of};
 use crate::stop::Stop;
-use dr_bind::read_query;
 use dr_commands::commands::Ask;
 use dr_nested::parse_schema;
 use dr_outside::Source;
 use dr_serve::ask_input;
+use dr_sub::read_nested;
 use std::alloc::Global;
 use std::sync::Wait;
 use std::thread::Threads;
@@ -39,12 +39,12 @@ pub fn answer<R: Threads + Wait + Sync, S: Source>(
         (S.shows source.old) (S.shows source.new)) }
 {
     let schema = parse_schema(alloc, file)?;
-    let plan = read_query(alloc, &schema, words.query.as_str())?;
+    let plans = read_nested(alloc, &schema, words.query.as_str())?;
     let text = ask_input(
         rt,
         alloc,
         schema,
-        &plan,
+        &plans,
         words.rows,
         &service_of(&words.serving, ALL_TABLETS),
         source,

@@ -9,10 +9,10 @@ ghost use Rattle.dr_top.specs.Stops.{StopsEarly};
 
 use crate::output::Output;
 use crate::stop::Stop;
-use dr_bind::read_query;
 use dr_commands::commands::Explain;
 use dr_nested::parse_schema;
-use dr_rewrite::rewriting_text;
+use dr_rewrite::nested_text;
+use dr_sub::read_nested;
 use std::alloc::Global;
 
 /// The text that `explain` prints, of its file.
@@ -24,7 +24,7 @@ pub fn answer(alloc: Global, words: &Explain, file: &[u8]) -> Result<Output, Sto
     ensures stops { IfErr result (StopsEarly (outcome_on (explain_meaning (explain_view words.now)) file.now)) }
 {
     let schema = parse_schema(alloc, file)?;
-    let plan = read_query(alloc, &schema, words.query.as_str())?;
-    let text = rewriting_text(alloc, &schema, &plan)?;
+    let plans = read_nested(alloc, &schema, words.query.as_str())?;
+    let text = nested_text(alloc, &schema, &plans)?;
     Ok(Output::Text(text))
 }

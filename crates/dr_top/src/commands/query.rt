@@ -11,10 +11,10 @@ ghost use Rattle.dr_top.specs.Stops.{StopsAsking};
 use crate::output::Output;
 use crate::service::service_of;
 use crate::stop::Stop;
-use dr_bind::read_query;
 use dr_commands::commands::Query;
 use dr_outside::Link;
 use dr_serve::{Queried, query_table};
+use dr_sub::read_nested;
 use dr_table::parse_table;
 use std::alloc::Global;
 use std::sync::Wait;
@@ -42,13 +42,13 @@ pub fn answer<R: Threads + Wait + Sync, L: Link + Send>(
     ensures links { LeavesLinksBy ((words.now).serving).workers (map L.shows links.old) (map L.shows links.new) }
 {
     let table = parse_table(alloc, file)?;
-    let plan = read_query(alloc, &table.schema, words.query.as_str())?;
+    let plans = read_nested(alloc, &table.schema, words.query.as_str())?;
     match query_table(
         rt,
         alloc,
         links,
         &table,
-        &plan,
+        &plans,
         &service_of(&words.serving, words.least),
     )? {
         Queried::Text(text) => Ok(Output::Text(text)),

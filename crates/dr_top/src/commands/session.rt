@@ -1,7 +1,7 @@
 //! The answer of `session`.
 
 ghost use Rattle.std.specs.Prelude.{◌≡◌, ℕ, List, IfOk, IfErr};
-ghost use Rattle.dr_meaning.specs.Session.{spoken};
+ghost use Rattle.dr_sub_meaning.specs.Session.{spoken};
 ghost use Rattle.dr_nested.specs.SchemaView.{schema_view};
 ghost use Rattle.dr_commands.specs.Session.{session_meaning, session_outcome, session_view};
 ghost use Rattle.dr_top.specs.World.{outcome_on};

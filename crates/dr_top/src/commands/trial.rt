@@ -10,11 +10,11 @@ ghost use Rattle.dr_top.specs.Stops.{StopsEarly};
 use crate::output::Output;
 use crate::service::{ALL_TABLETS, service_of};
 use crate::stop::Stop;
-use dr_bind::read_query;
 use dr_commands::commands::Trial;
 use dr_gen::{GenSource, document_text, trial_query};
 use dr_nested::parse_schema;
 use dr_serve::ask_input;
+use dr_sub::read_nested;
 use std::alloc::Global;
 use std::sync::Wait;
 use std::thread::Threads;
@@ -31,13 +31,13 @@ pub fn answer<R: Threads + Wait + Sync>(
     ensures stops { IfErr result (StopsEarly (outcome_on (trial_meaning (trial_view words.now)) [])) }
 {
     let schema = parse_schema(alloc, document_text().as_bytes())?;
-    let plan = read_query(alloc, &schema, trial_query())?;
+    let plans = read_nested(alloc, &schema, trial_query())?;
     let mut lines = GenSource::new(alloc, u64::from(words.seed), u64::from(words.records))?;
     let text = ask_input(
         rt,
         alloc,
         schema,
-        &plan,
+        &plans,
         words.rows,
         &service_of(&words.serving, ALL_TABLETS),
         &mut lines,

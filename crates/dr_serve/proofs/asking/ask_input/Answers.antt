@@ -36,4 +36,4 @@ returns-clause-text g c =
     let l = c.in-Ok.ensures.table in
     let held = memory_holds (schema_view c.args.schema) ds (map string_bytes c.in_ok-leaves.leaves.items) c.args.rows c.in-Ok.loaded.tablets (g.S.Source.shows c.args.source.now).left (files_of c.new-shelf.result) (files_of c.load.new.keeper) m l (ap (map string_bytes) c.deref.ensures.value) in
     let printed = c.in_ok-text.ensures.text (files_of c.load.new.keeper) l.records (lent_hold c.load.new.keeper c.in_ok-links.links.items c.deref_mut.result.now c.deref_mut.ensures.value c.in_ok-links.ensures.shelf) held in
-    λ q b. memory_answers (schema_view c.args.schema) q ds c.args.rows c.in-Ok.loaded.tablets (g.S.Source.shows c.args.source.now).left (files_of c.new-shelf.result) (files_of c.load.new.keeper) (string_bytes c.in_ok-text.text) m l (printed q b)
+    λ n are. memory_answers (schema_view c.args.schema) n ds c.args.rows c.in-Ok.loaded.tablets (g.S.Source.shows c.args.source.now).left (files_of c.new-shelf.result) (files_of c.load.new.keeper) (string_bytes c.in_ok-text.text) m l (printed n are)

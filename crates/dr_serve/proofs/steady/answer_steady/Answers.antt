@@ -12,9 +12,9 @@ returns g c =
     let links = map g.L.Link.shows (take c.args.options.now.workers c.args.links.now) in
     let now = first_shown (map g.L.Link.shows c.query_table.new.links) in
     record {
-      text = λ files R hold h q b.
-          let answered = subst (AnsweredAs t q c.args.options.now.least links now) c.in-Text.is (c.in_ok-text.ensures.answers q b) in
-          answer_is g.L.Link.shows t q c.args.plan.now c.args.options.now.workers c.args.links.now files R (string_bytes c.in-Text.text) hold h b answered.ends.text;
+      text = λ files R hold h n are.
+          let answered = subst (AnsweredAs t n c.args.options.now.least links now) c.in-Text.is (c.in_ok-text.ensures.answers n are) in
+          answer_is g.L.Link.shows t n c.args.plans.now c.args.options.now.workers c.args.links.now files R (string_bytes c.in-Text.text) hold h are answered.ends.text;
     }
 
 -- all tablets are asked for
@@ -24,7 +24,7 @@ unreachable-requires g c =
     let p = c.requires.planned in
     let links = map g.L.Link.shows (take c.args.options.now.workers c.args.links.now) in
     let now = first_shown (map g.L.Link.shows c.query_table.new.links) in
-    let answered = subst (AnsweredAs t p.1 c.args.options.now.least links now) c.in-Most.is (c.in_ok-text.ensures.answers p.1 (p.0, p.2, p.3)) in
+    let answered = subst (AnsweredAs t p.0 c.args.options.now.least links now) c.in-Most.is (c.in_ok-text.ensures.answers p.0 p.1) in
     absurd (answered.ends.all c.requires.least)
 
 -- a query has this plan, and of its table no tablet is left
@@ -34,6 +34,6 @@ unreachable-requires-in-Left g c =
     let p = c.requires.planned in
     let links = map g.L.Link.shows (take c.args.options.now.workers c.args.links.now) in
     let now = first_shown (map g.L.Link.shows c.query_table.new.links) in
-    let answered = subst (AnsweredAs t p.1 c.args.options.now.least links now) c.in-Left.is (c.in_ok-text.ensures.answers p.1 (p.0, p.2, p.3)) in
-    absurd (steady_leaves_none g.L.Link.shows t p.1 c.args.options.now.workers c.args.links.now now.faults c.requires.held.0 c.requires.held.2 (all_left_view c.in-Left.field-0.items) c.requires.workers.0 c.requires.workers.1 c.requires.held.1 c.requires.steady
+    let answered = subst (AnsweredAs t p.0 c.args.options.now.least links now) c.in-Left.is (c.in_ok-text.ensures.answers p.0 p.1) in
+    absurd (steady_leaves_none g.L.Link.shows t p.0 c.args.options.now.workers c.args.links.now now.faults c.requires.held.0 c.requires.held.2 (all_left_view c.in-Left.field-0.items) c.requires.workers.0 c.requires.workers.1 c.requires.held.1 c.requires.steady
     c.args.table.now.has_copy c.requires.held.3 answered.ends.left)

@@ -1,5 +1,5 @@
 use Rattle.std.proofs.Common.{◌+◌, ℕ, List, refl, sym, ◌∙◌, subst, arith}
-use Rattle.dr_meaning.specs.Session.{Session}
+use Rattle.dr_sub_meaning.specs.Session.{Session}
 use Rattle.dr_lines.specs.Cutting.{pending, ahead, CutsLine, CutsBytes}
 use Rattle.dr_session.specs.Held.{IsSession}
 use Rattle.dr_session.specs.Talking.{TalkStops}

@@ -1,7 +1,7 @@
 use Rattle.std.proofs.Common.{refl, ◌<◌, arith}
 use Rattle.dr_nested.specs.SchemaView.{schema_view}
 use Rattle.dr_striper.specs.Stripers.{striped_leaves}
-use Rattle.dr_meaning.specs.Session.{most_kept}
+use Rattle.dr_sub_meaning.specs.Session.{most_kept}
 use Rattle.dr_session.proofs.KeptLemmas.{record_fits, kept_line, refused_line}
 use Rattle.dr_session.proofs.kept.Kept.keep.Goals as goal
 

@@ -6,10 +6,10 @@ use Rattle.std.specs.Str.Lossy.{utf8_valid_len}
 use Rattle.dr_meaning.specs.Schema.{Schema}
 use Rattle.dr_meaning.specs.Record.{Node}
 use Rattle.dr_meaning.specs.JsonRecord.{RecordFault, record_of_line}
-use Rattle.dr_meaning.specs.Query.{Query}
-use Rattle.dr_meaning.specs.Ask.{read_query, answer_text}
-use Rattle.dr_meaning.specs.Refusals.{QueryRefusal, text_refused, binding_refused, record_fault_name, query_problem_name, bind_problem_name}
+use Rattle.dr_meaning.specs.Refusals.{QueryRefusal, text_refused, binding_refused, record_fault_name, query_problem_name, nested_problem_name}
 use Rattle.dr_meaning.specs.Lines.{lines_of, longest_line}
+use Rattle.dr_sub_meaning.specs.Nested.{NestedQuery}
+use Rattle.dr_sub_meaning.specs.NestedAsk.{read_nested, nested_answer_text}
 
 -- ---- limits
 
@@ -85,8 +85,8 @@ at_text k = codes "at " ++ (decimal k ++ 10 ∷ [])
 abbrev pub asked_text : List ℕ → List ℕ
 asked_text line = if utf8_valid_len line == length line then line else take (utf8_valid_len line) line ++ 1 ∷ []
 
-abbrev pub answers : Schema → Session → Result Query QueryRefusal → Result Heard SessionFault
-answers s w (Ok q) = Ok (record { session = w; text = answer_text s q (flat_map (λ (R : List Node). R) w.published) ++ at_text (length w.published) })
+abbrev pub answers : Schema → Session → Result NestedQuery QueryRefusal → Result Heard SessionFault
+answers s w (Ok n) = Ok (record { session = w; text = nested_answer_text s n (flat_map (λ (R : List Node). R) w.published) ++ at_text (length w.published) })
 answers s w (Err e) = Err (query_refused e)
 
 -- by the line's first byte: + 43, ? 63, . 46
@@ -94,7 +94,7 @@ abbrev pub commanded : Schema → Session → List ℕ → Result Heard SessionF
 commanded s w [] = Err no_command
 commanded s w (b ∷ line) =
     if b == 43 then keeps s w line
-    else (if b == 63 then answers s w (read_query s (asked_text line))
+    else (if b == 63 then answers s w (read_nested s (asked_text line))
     else (if bytes_eq (b ∷ line) (46 ∷ []) then publishes w else Err no_command))
 
 -- the line of this number
@@ -128,7 +128,7 @@ spoken s input = spoken_from s new_session 1 (lines_of input)
 
 abbrev pub query_fault_name : QueryRefusal → List ℕ
 query_fault_name (text_refused e) = codes "query at " ++ (decimal e.place ++ (codes ": " ++ query_problem_name e.problem))
-query_fault_name (binding_refused e) = codes "query at " ++ (decimal e.place ++ (codes ": " ++ bind_problem_name e.problem))
+query_fault_name (binding_refused e) = codes "query at " ++ (decimal e.place ++ (codes ": " ++ nested_problem_name e.problem))
 
 abbrev pub session_fault_name : SessionFault → List ℕ
 session_fault_name line_too_long = codes "LineTooLong"

@@ -7,14 +7,17 @@ use Rattle.json.specs.Print.{escape_byte}
 use Rattle.serde_json.proofs.OnLiterals.{serde_json_on_literals}
 use Rattle.dr_meaning.specs.Schema.{Schema}
 use Rattle.dr_meaning.specs.JsonRecord.{record_of_line, not_json}
-use Rattle.dr_meaning.specs.Parse.{parse_query, items, argument, whole_expression}
+use Rattle.dr_meaning.specs.Parse.{items as plain_items, keys, argument, whole_expression}
 use Rattle.dr_meaning.specs.Binding.{bind}
-use Rattle.dr_meaning.specs.Query.{meaning}
+use Rattle.dr_meaning.specs.Query as plain
 use Rattle.dr_meaning.specs.Print.{result_text}
-use Rattle.dr_meaning.specs.Ask.{read_query, answer_text}
 use Rattle.dr_meaning.proofs.WorkedSchemas.{document}
 use Rattle.dr_meaning.proofs.WorkedRecords.{line_10, line_20}
-use Rattle.dr_meaning.specs.Session.{spoken, commanded, new_session, asked_text, session_refusal_text, no_command, full, no_record}
+use Rattle.dr_sub_meaning.specs.Nested.{answered, meaning, outer_fields, outer_records}
+use Rattle.dr_sub_meaning.specs.NestedParse.{parse_nested}
+use Rattle.dr_sub_meaning.specs.NestedBinding.{bind_nested}
+use Rattle.dr_sub_meaning.specs.NestedAsk.{read_nested, nested_answer_text}
+use Rattle.dr_sub_meaning.specs.Session.{spoken, commanded, new_session, asked_text, session_refusal_text, no_command, full, no_record}
 
 abbrev the_schema : Schema
 the_schema = record { name = codes "Document"; fields = document }
@@ -27,7 +30,7 @@ pub two_publishes : spoken the_schema (count ++ (codes "+" ++ (line_10 ++ (codes
   text = codes "{\"r\":0}\nat 0\npublished 1\n{\"r\":1}\nat 1\n{\"r\":1}\nat 1\npublished 2\n{\"r\":2}\nat 2\n";
   refusal = None;
 }
-unfolding spoken utf8_valid_len parse_query items argument whole_expression bind read_query answer_text record_of_line is_utf8 chars serde_json_on_literals result_text meaning escape_byte digits
+unfolding spoken utf8_valid_len parse_nested plain_items keys argument whole_expression bind_nested bind read_nested nested_answer_text answered outer_fields outer_records plain.meaning record_of_line is_utf8 chars serde_json_on_literals result_text meaning escape_byte digits
 two_publishes = refl
 
 -- a session without lines
